@@ -1,0 +1,23 @@
+-- `arena::count_more` meets its contract: the callees' equations joined. Assumes nothing.
+use borrow.Author.Needs.{needs}
+use Rattle.arena.proofs.count_more.Statement.{statement}
+use Rattle.arena.proofs.count_more.Tie as tie
+
+count-of-requires : tie.Need-count-of-requires
+count-of-requires c κs = search needs
+
+count-up-requires : tie.Need-count-up-requires
+count-up-requires c κs = search needs
+
+set-count-requires : tie.Need-set-count-requires
+set-count-requires c κs = search needs
+
+same-length : tie.Need-same-length
+same-length c = search needs
+
+returns : tie.Need-returns
+returns c = cc
+
+pub count-more-spec : {M : Type 1} → statement M
+count-more-spec =
+    tie.close (tie.spec count-of-requires count-up-requires set-count-requires same-length returns)

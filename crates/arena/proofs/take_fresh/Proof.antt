@@ -1,0 +1,55 @@
+-- `arena::take_fresh` meets its contract: each way by its test. Assumes nothing.
+use borrow.Author.Needs.{needs}
+use native.Mathlib.Omega.{arith}
+use Rattle.arena.specs.Slots.{takeFresh}
+use Rattle.base.specs.Ways.{lt-yes, lt-no, le-yes, le-no}
+use Rattle.arena.proofs.take_fresh.Statement.{statement}
+use Rattle.arena.proofs.take_fresh.Tie as tie
+
+no-room-requires : tie.Need-no-room-requires
+no-room-requires c κs = search needs
+
+same-length : tie.Need-same-length
+same-length c = search needs
+
+returns : tie.Need-returns
+unfolding takeFresh
+returns c = (le-yes _ _ _ _ _ (omega arith) (cc), c .no-room .ensures .1)
+
+colour-of-requires : tie.Need-colour-of-requires
+colour-of-requires c κs = search needs
+
+no-room-requires-2 : tie.Need-no-room-requires-2
+no-room-requires-2 c κs = search needs
+
+same-length-2 : tie.Need-same-length-2
+same-length-2 c = search needs
+
+returns-2 : tie.Need-returns-2
+unfolding takeFresh
+returns-2 c = (le-no _ _ _ _ _ (omega arith) (lt-yes _ _ _ _ _ (omega arith) (cc)), c .no-room2 .ensures .1)
+
+open-slot-requires : tie.Need-open-slot-requires
+open-slot-requires c κs = search needs
+
+same-length-3 : tie.Need-same-length-3
+same-length-3 c = search needs
+
+returns-3 : tie.Need-returns-3
+unfolding takeFresh
+returns-3 c = (le-no _ _ _ _ _ (omega arith) (lt-no _ _ _ _ _ (omega arith) (cc)), omega arith)
+
+pub take-fresh-spec : {M : Type 1} → statement M
+take-fresh-spec =
+    tie.close
+    (tie.spec
+    no-room-requires
+    same-length
+    returns
+    colour-of-requires
+    no-room-requires-2
+    same-length-2
+    returns-2
+    open-slot-requires
+    same-length-3
+    returns-3)

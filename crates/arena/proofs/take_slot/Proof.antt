@@ -1,0 +1,54 @@
+-- `arena::take_slot` meets its contract: each way by its test. Assumes nothing.
+use borrow.Author.Needs.{needs}
+use native.Mathlib.Omega.{arith}
+use Rattle.arena.specs.Slots.{takeSlot}
+use Rattle.base.specs.Ways.{lt-yes, lt-no}
+use Rattle.arena.proofs.take_slot.Statement.{statement}
+use Rattle.arena.proofs.take_slot.Tie as tie
+
+head-of-requires : tie.Need-head-of-requires
+head-of-requires c κs = search needs
+
+wide-requires : tie.Need-wide-requires
+wide-requires c κs = search needs
+
+sub-take-head : tie.Need-sub-take-head
+sub-take-head c = search needs
+
+take-head-requires : tie.Need-take-head-requires
+take-head-requires c κs = search needs
+
+same-length : tie.Need-same-length
+same-length c = search needs
+
+returns : tie.Need-returns
+unfolding takeSlot
+returns c = (lt-yes _ _ _ _ _ (omega arith) (cc), c .before .before .take-head .ensures .1)
+
+fresh-of-requires : tie.Need-fresh-of-requires
+fresh-of-requires c κs = search needs
+
+take-fresh-requires : tie.Need-take-fresh-requires
+take-fresh-requires c κs = search needs
+
+same-length-2 : tie.Need-same-length-2
+same-length-2 c = search needs
+
+returns-2 : tie.Need-returns-2
+unfolding takeSlot
+returns-2 c = (lt-no _ _ _ _ _ (omega arith) (cc), c .before .before .take-fresh .ensures .1)
+
+pub take-slot-spec : {M : Type 1} → statement M
+take-slot-spec =
+    tie.close
+    (tie.spec
+    head-of-requires
+    wide-requires
+    sub-take-head
+    take-head-requires
+    same-length
+    returns
+    fresh-of-requires
+    take-fresh-requires
+    same-length-2
+    returns-2)

@@ -1,0 +1,67 @@
+-- `arena::visit_slot` meets its contract: each way by its test. Assumes nothing.
+use borrow.Author.Needs.{needs}
+use native.Mathlib.Omega.{arith}
+use Rattle.arena.specs.Slots.{visit}
+use Rattle.base.specs.Ways.{eq-yes, eq-no}
+use Rattle.arena.proofs.visit_slot.Statement.{statement}
+use Rattle.arena.proofs.visit_slot.Tie as tie
+
+colour-of-requires : tie.Need-colour-of-requires
+colour-of-requires c κs = search needs
+
+same-length : tie.Need-same-length
+same-length c = search needs
+
+returns : tie.Need-returns
+unfolding visit
+returns c = (eq-yes _ _ _ _ _ (omega arith) (cc), omega arith)
+
+free-slot-requires : tie.Need-free-slot-requires
+free-slot-requires c κs = search needs
+
+sub-t17 : tie.Need-sub-t17
+sub-t17 c = search needs
+
+add-t18 : tie.Need-add-t18
+add-t18 c = search needs
+
+same-length-2 : tie.Need-same-length-2
+same-length-2 c = search needs
+
+same-length-3 : tie.Need-same-length-3
+same-length-3 c = search needs
+
+returns-2 : tie.Need-returns-2
+unfolding visit
+returns-2 c = (eq-no _ _ _ _ _ (λ e. omega arith) (eq-yes _ _ _ _ _ (omega arith) (cc)), omega arith)
+
+set-colour-requires : tie.Need-set-colour-requires
+set-colour-requires c κs = search needs
+
+sub-t22 : tie.Need-sub-t22
+sub-t22 c = search needs
+
+same-length-4 : tie.Need-same-length-4
+same-length-4 c = search needs
+
+returns-3 : tie.Need-returns-3
+unfolding visit
+returns-3 c = (eq-no _ _ _ _ _ (λ e. omega arith) (eq-no _ _ _ _ _ (λ e. omega arith) (cc)), omega arith)
+
+pub visit-slot-spec : {M : Type 1} → statement M
+visit-slot-spec =
+    tie.close
+    (tie.spec
+    colour-of-requires
+    same-length
+    returns
+    free-slot-requires
+    sub-t17
+    add-t18
+    same-length-2
+    same-length-3
+    returns-2
+    set-colour-requires
+    sub-t22
+    same-length-4
+    returns-3)

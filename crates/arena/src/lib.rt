@@ -1,0 +1,515 @@
+// One arena of slots in the lent words (document 01, 'Slots and colours'): generations, colours, the chain of free slots,
+// taking and freeing a slot, and the sweep. What the six arenas share is here, once, over the kind: an `Arena` says where
+// the parts of one lie. All contents of the words are taken as they are; only the places must lie within the buffers.
+use base::wide;
+ghost use mathlib.Core.Path.{_≡_};
+ghost use Prim.Native.Nat.{ℕ, _+_, _*_, _≤_, _<_};
+ghost use lib.ListN.{length};
+ghost use Rattle.base.specs.Heap.{heap};
+ghost use Rattle.arena.specs.Slots.{Room, Wide, colour, setColour, gen, setGen, link, setLink, extent, setExtent, head, setHead, fresh, setFresh, count, setCount, used, named, Within, tallied, occupied, clearBody, clearText, emptied, aged, pushed, countLess, countMore, chained, freeSlot, freed, filled, popped, opened, noRoom, takeHead, takeFresh, takeSlot, Taken, visit, sweepPartial};
+
+// Where the parts of one arena lie.
+pub struct Arena {
+    // Three words of the header: the head of the chain, the fresh index, the count of occupied slots.
+    pub top: usize,
+    // Colours, generations, links and extents, one after the other, a word for each slot in each.
+    pub base: usize,
+    pub slots: usize,
+    // The bodies, stride words for each slot.
+    pub bodies: usize,
+    pub stride: usize,
+    // The bytes of a slot, from slot times width on: 64 for a string, else 0.
+    pub width: usize,
+}
+
+// What a handle names.
+pub enum Named {
+    At(usize),
+    Stale,
+}
+
+// What taking a slot finds.
+pub enum Took {
+    // A slot, with its generation.
+    Slot(usize, u32),
+    // Every slot is occupied.
+    Full,
+    // The head or the fresh index names no free slot.
+    Damaged,
+}
+
+// What freeing by a handle answers.
+pub enum Freed {
+    Done,
+    Refused(u32),
+}
+
+// A sweep on its way: how many occupied slots it may still see, and how many it freed.
+pub struct Sweep {
+    pub left: usize,
+    pub freed: usize,
+}
+
+// What a sweep did, where the next one starts, and whether it reached the end.
+pub struct Swept {
+    pub freed: usize,
+    pub next: usize,
+    pub done: bool,
+}
+
+// An unknown colour is free, 0.
+pub fn colour_of(w: &[u32], a: Arena, i: usize) -> u32
+    requires { ⌜ Room a (now w) ⌝ }
+    requires { ⌜ i < a .slots ⌝ }
+    ensures { λ r. ⌜ r ≡ colour a i (now (w .entry)) ⌝ }
+{
+    let at = a.base + i;
+    let c = w[at];
+    if c <= 4 { c } else { 0 }
+}
+
+pub fn set_colour(w: &mut [u32], a: Arena, i: usize, c: u32)
+    requires { ⌜ Room a (now w) ⌝ }
+    requires { ⌜ i < a .slots ⌝ }
+    ensures { λ _. ⌜ now (w .exit) ≡ setColour a i c (now (w .entry)) ⌝ }
+{
+    let at = a.base + i;
+    w[at] = c;
+}
+
+pub fn generation_of(w: &[u32], a: Arena, i: usize) -> u32
+    requires { ⌜ Room a (now w) ⌝ }
+    requires { ⌜ i < a .slots ⌝ }
+    ensures { λ r. ⌜ r ≡ gen a i (now (w .entry)) ⌝ }
+{
+    let at = a.base + a.slots + i;
+    w[at]
+}
+
+fn set_generation(w: &mut [u32], a: Arena, i: usize, g: u32)
+    requires { ⌜ Room a (now w) ⌝ }
+    requires { ⌜ i < a .slots ⌝ }
+    ensures { λ _. ⌜ now (w .exit) ≡ setGen a i g (now (w .entry)) ⌝ }
+{
+    let at = a.base + a.slots + i;
+    w[at] = g;
+}
+
+// The slot after slot i in the chain: its index + 1, 0 for none.
+pub fn link_of(w: &[u32], a: Arena, i: usize) -> u32
+    requires { ⌜ Room a (now w) ⌝ }
+    requires { ⌜ i < a .slots ⌝ }
+    ensures { λ r. ⌜ r ≡ link a i (now (w .entry)) ⌝ }
+{
+    let at = a.base + 2 * a.slots + i;
+    w[at]
+}
+
+fn set_link(w: &mut [u32], a: Arena, i: usize, x: u32)
+    requires { ⌜ Room a (now w) ⌝ }
+    requires { ⌜ i < a .slots ⌝ }
+    ensures { λ _. ⌜ now (w .exit) ≡ setLink a i x (now (w .entry)) ⌝ }
+{
+    let at = a.base + 2 * a.slots + i;
+    w[at] = x;
+}
+
+// How many words of slot i's body its record takes. One past the stride reads as 0.
+pub fn extent_of(w: &[u32], a: Arena, i: usize) -> usize
+    requires { ⌜ Room a (now w) ⌝ }
+    requires { ⌜ i < a .slots ⌝ }
+    ensures { λ r. ⌜ (r ≡ extent a i (now (w .entry))) × (r ≤ a .stride) ⌝ }
+{
+    let at = a.base + 3 * a.slots + i;
+    let n = a.stride;
+    base::within(base::get(w, at), n)
+}
+
+fn set_extent(w: &mut [u32], a: Arena, i: usize, n: u32)
+    requires { ⌜ Room a (now w) ⌝ }
+    requires { ⌜ i < a .slots ⌝ }
+    ensures { λ _. ⌜ now (w .exit) ≡ setExtent a i n (now (w .entry)) ⌝ }
+{
+    let at = a.base + 3 * a.slots + i;
+    w[at] = n;
+}
+
+// The head of the chain: a slot's index + 1, 0 for none.
+pub fn head_of(w: &[u32], a: Arena) -> u32
+    requires { ⌜ Room a (now w) ⌝ }
+    ensures { λ r. ⌜ r ≡ head a (now (w .entry)) ⌝ }
+{
+    let at = a.top;
+    w[at]
+}
+
+fn set_head(w: &mut [u32], a: Arena, x: u32)
+    requires { ⌜ Room a (now w) ⌝ }
+    ensures { λ _. ⌜ now (w .exit) ≡ setHead a x (now (w .entry)) ⌝ }
+{
+    let at = a.top;
+    w[at] = x;
+}
+
+fn fresh_of(w: &[u32], a: Arena) -> usize
+    requires { ⌜ Room a (now w) ⌝ }
+    ensures { λ r. ⌜ r ≡ fresh a (now (w .entry)) ⌝ }
+{
+    let at = a.top + 1;
+    wide(w[at])
+}
+
+fn set_fresh(w: &mut [u32], a: Arena, x: u32)
+    requires { ⌜ Room a (now w) ⌝ }
+    ensures { λ _. ⌜ now (w .exit) ≡ setFresh a x (now (w .entry)) ⌝ }
+{
+    let at = a.top + 1;
+    w[at] = x;
+}
+
+// The stored count of occupied slots.
+pub fn count_of(w: &[u32], a: Arena) -> u32
+    requires { ⌜ Room a (now w) ⌝ }
+    ensures { λ r. ⌜ r ≡ count a (now (w .entry)) ⌝ }
+{
+    let at = a.top + 2;
+    w[at]
+}
+
+fn set_count(w: &mut [u32], a: Arena, x: u32)
+    requires { ⌜ Room a (now w) ⌝ }
+    ensures { λ _. ⌜ now (w .exit) ≡ setCount a x (now (w .entry)) ⌝ }
+{
+    let at = a.top + 2;
+    w[at] = x;
+}
+
+// The end of the slots: the fresh index. No index from there on names a slot.
+pub fn used_of(w: &[u32], a: Arena) -> usize
+    requires { ⌜ Room a (now w) ⌝ }
+    ensures { λ r. ⌜ (r ≡ used a (now (w .entry))) × (r ≤ a .slots) ⌝ }
+{
+    let f = fresh_of(w, a);
+    let n = a.slots;
+    if f < n {
+        return f;
+    }
+    n
+}
+
+// The occupied slot below the fresh index that a handle names. This is the one place that tests a handle.
+pub fn name_of(w: &[u32], a: Arena, index: u32, generation: u32) -> Named
+    requires { ⌜ Room a (now w) ⌝ }
+    ensures { λ r. ⌜ (r ≡ named a index generation (now (w .entry))) × Within r (a .slots) ⌝ }
+{
+    let i = wide(index);
+    if used_of(w, a) <= i {
+        return Named::Stale;
+    }
+    if generation_of(w, a, i) != generation {
+        return Named::Stale;
+    }
+    if colour_of(w, a, i) == 0 {
+        return Named::Stale;
+    }
+    Named::At(i)
+}
+
+// One turn of the count below: a slot that is not free is one more.
+fn tally(w: &[u32], a: Arena, i: usize, n: usize) -> usize
+    requires { ⌜ Room a (now w) ⌝ }
+    requires { ⌜ (i < a .slots) × (n ≤ i) ⌝ }
+    ensures { λ r. ⌜ (r ≡ tallied a (now (w .entry)) i n) × (r ≤ i + 1) ⌝ }
+{
+    if colour_of(w, a, i) == 0 {
+        return n;
+    }
+    n + 1
+}
+
+// How many slots below the fresh index are occupied, by their colours.
+pub fn occupied_of(w: &[u32], a: Arena) -> usize
+    requires { ⌜ Room a (now w) ⌝ }
+    ensures { λ r. ⌜ r ≡ occupied a (now (w .entry)) ⌝ }
+{
+    let end = used_of(w, a);
+    let mut n: usize = 0;
+    let mut i: usize = 0;
+    while i < end {
+        n = tally(w, a, i, n);
+        i += 1;
+    }
+    n
+}
+
+// The record of slot i is made 0.
+fn clear_body(w: &mut [u32], a: Arena, i: usize)
+    requires { ⌜ Room a (now w) ⌝ }
+    requires { ⌜ i < a .slots ⌝ }
+    ensures { λ _. ⌜ now (w .exit) ≡ clearBody a i (now (w .entry)) ⌝ }
+{
+    let n = extent_of(w, a, i);
+    let body = a.bodies + i * a.stride;
+    base::clear_words(w, body, n);
+}
+
+// The bytes of slot i are made 0.
+fn clear_text(b: &mut [u8], a: Arena, i: usize)
+    requires { ⌜ Wide a (now b) ⌝ }
+    requires { ⌜ i < a .slots ⌝ }
+    ensures { λ _. ⌜ now (b .exit) ≡ clearText a i (now (b .entry)) ⌝ }
+{
+    let n = a.width;
+    let text = i * n;
+    base::clear_bytes(b, text, n);
+}
+
+// The body of slot i is zeroed: its record as sized, and its bytes.
+fn empty_slot(w: &mut [u32], b: &mut [u8], a: Arena, i: usize)
+    requires { ⌜ Room a (now w) ⌝ }
+    requires { ⌜ Wide a (now b) ⌝ }
+    requires { ⌜ i < a .slots ⌝ }
+    ensures { λ _. ⌜ heap (now (w .exit)) (now (b .exit)) ≡ emptied a i (heap (now (w .entry)) (now (b .entry))) ⌝ }
+{
+    clear_body(w, a, i);
+    set_extent(w, a, i, 0);
+    clear_text(b, a, i);
+}
+
+// The generation of slot i is one more, modulo 2^32.
+fn age_slot(w: &mut [u32], a: Arena, i: usize)
+    requires { ⌜ Room a (now w) ⌝ }
+    requires { ⌜ i < a .slots ⌝ }
+    ensures { λ _. ⌜ now (w .exit) ≡ aged a i (now (w .entry)) ⌝ }
+{
+    let g = generation_of(w, a, i);
+    set_generation(w, a, i, std::num::wrapping_add_u32(g, 1));
+}
+
+// Slot i becomes the head of the chain.
+fn push_slot(w: &mut [u32], a: Arena, i: usize)
+    requires { ⌜ Room a (now w) ⌝ }
+    requires { ⌜ i < a .slots ⌝ }
+    ensures { λ _. ⌜ now (w .exit) ≡ pushed a i (now (w .entry)) ⌝ }
+{
+    let h = head_of(w, a);
+    set_link(w, a, i, h);
+    set_head(w, a, i as u32 + 1);
+}
+
+fn count_less(w: &mut [u32], a: Arena)
+    requires { ⌜ Room a (now w) ⌝ }
+    ensures { λ _. ⌜ now (w .exit) ≡ countLess a (now (w .entry)) ⌝ }
+{
+    let n = count_of(w, a);
+    set_count(w, a, base::count_down(n));
+}
+
+fn count_more(w: &mut [u32], a: Arena)
+    requires { ⌜ Room a (now w) ⌝ }
+    ensures { λ _. ⌜ now (w .exit) ≡ countMore a (now (w .entry)) ⌝ }
+{
+    let n = count_of(w, a);
+    set_count(w, a, base::count_up(n));
+}
+
+// Slot i, emptied, is free: one generation more, and the head of the chain.
+fn chain_slot(w: &mut [u32], a: Arena, i: usize)
+    requires { ⌜ Room a (now w) ⌝ }
+    requires { ⌜ i < a .slots ⌝ }
+    ensures { λ _. ⌜ now (w .exit) ≡ chained a i (now (w .entry)) ⌝ }
+{
+    age_slot(w, a, i);
+    set_colour(w, a, i, 0);
+    push_slot(w, a, i);
+    count_less(w, a);
+}
+
+// Slot i is freed. This is the one place that frees.
+pub fn free_slot(w: &mut [u32], b: &mut [u8], a: Arena, i: usize)
+    requires { ⌜ Room a (now w) ⌝ }
+    requires { ⌜ Wide a (now b) ⌝ }
+    requires { ⌜ i < a .slots ⌝ }
+    ensures { λ _. ⌜ heap (now (w .exit)) (now (b .exit)) ≡ freeSlot a i (heap (now (w .entry)) (now (b .entry))) ⌝ }
+{
+    empty_slot(w, b, a, i);
+    chain_slot(w, a, i);
+}
+
+// The slot that a handle names is freed; a handle that names none is refused with 2.
+pub fn free(w: &mut [u32], b: &mut [u8], a: Arena, index: u32, generation: u32) -> Freed
+    requires { ⌜ Room a (now w) ⌝ }
+    requires { ⌜ Wide a (now b) ⌝ }
+    ensures { λ r. ⌜ (r, heap (now (w .exit)) (now (b .exit))) ≡ freed a index generation (heap (now (w .entry)) (now (b .entry))) ⌝ }
+{
+    match name_of(w, a, index, generation) {
+        Named::At(i) => {
+            free_slot(w, b, a, i);
+            Freed::Done
+        }
+        Named::Stale => Freed::Refused(2),
+    }
+}
+
+// Slot i is occupied, with colour c and a record of n words.
+fn fill_slot(w: &mut [u32], a: Arena, i: usize, c: u32, n: u32)
+    requires { ⌜ Room a (now w) ⌝ }
+    requires { ⌜ i < a .slots ⌝ }
+    ensures { λ _. ⌜ now (w .exit) ≡ filled a i c n (now (w .entry)) ⌝ }
+{
+    set_colour(w, a, i, c);
+    set_extent(w, a, i, n);
+    count_more(w, a);
+}
+
+// Slot i, the head, leaves the chain and is occupied.
+fn pop_slot(w: &mut [u32], a: Arena, i: usize, c: u32, n: u32)
+    requires { ⌜ Room a (now w) ⌝ }
+    requires { ⌜ i < a .slots ⌝ }
+    ensures { λ _. ⌜ now (w .exit) ≡ popped a i c n (now (w .entry)) ⌝ }
+{
+    let x = link_of(w, a, i);
+    set_head(w, a, x);
+    set_link(w, a, i, 0);
+    fill_slot(w, a, i, c, n);
+}
+
+// Slot i, the fresh index, begins at generation 0 and is occupied.
+fn open_slot(w: &mut [u32], a: Arena, i: usize, c: u32, n: u32)
+    requires { ⌜ Room a (now w) ⌝ }
+    requires { ⌜ i < a .slots ⌝ }
+    ensures { λ _. ⌜ now (w .exit) ≡ opened a i c n (now (w .entry)) ⌝ }
+{
+    set_fresh(w, a, i as u32 + 1);
+    set_generation(w, a, i, 0);
+    fill_slot(w, a, i, c, n);
+}
+
+// No slot was found: every slot is occupied, or the words are damaged. This is the one place that decides "no room".
+fn no_room(w: &[u32], a: Arena) -> Took
+    requires { ⌜ Room a (now w) ⌝ }
+    ensures { λ r. ⌜ (r ≡ noRoom a (now (w .entry))) × Taken r (a .slots) ⌝ }
+{
+    let n = a.slots;
+    if occupied_of(w, a) < n {
+        return Took::Damaged;
+    }
+    Took::Full
+}
+
+// The head is taken, if it names a free slot.
+fn take_head(w: &mut [u32], a: Arena, i: usize, c: u32, n: u32) -> Took
+    requires { ⌜ Room a (now w) ⌝ }
+    ensures { λ r. ⌜ ((r, now (w .exit)) ≡ takeHead a i c n (now (w .entry))) × Taken r (a .slots) ⌝ }
+{
+    if used_of(w, a) <= i {
+        return no_room(w, a);
+    }
+    if 0 < colour_of(w, a, i) {
+        return no_room(w, a);
+    }
+    let g = generation_of(w, a, i);
+    pop_slot(w, a, i, c, n);
+    Took::Slot(i, g)
+}
+
+// The next fresh index is taken, if it names a free slot.
+fn take_fresh(w: &mut [u32], a: Arena, i: usize, c: u32, n: u32) -> Took
+    requires { ⌜ Room a (now w) ⌝ }
+    ensures { λ r. ⌜ ((r, now (w .exit)) ≡ takeFresh a i c n (now (w .entry))) × Taken r (a .slots) ⌝ }
+{
+    let slots = a.slots;
+    if slots <= i {
+        return no_room(w, a);
+    }
+    if 0 < colour_of(w, a, i) {
+        return no_room(w, a);
+    }
+    open_slot(w, a, i, c, n);
+    Took::Slot(i, 0)
+}
+
+// A slot is taken for a record of n words, with colour c: the head of the chain, else the next fresh index.
+pub fn take_slot(w: &mut [u32], a: Arena, c: u32, n: u32) -> Took
+    requires { ⌜ Room a (now w) ⌝ }
+    ensures { λ r. ⌜ ((r, now (w .exit)) ≡ takeSlot a c n (now (w .entry))) × Taken r (a .slots) ⌝ }
+{
+    let h = head_of(w, a);
+    if 0 < h {
+        return take_head(w, a, wide(h) - 1, c, n);
+    }
+    let f = fresh_of(w, a);
+    take_fresh(w, a, f, c, n)
+}
+
+// One slot is visited by a sweep: a free one is passed, an old-white one is freed, another takes the new white.
+fn visit_slot(
+    w: &mut [u32],
+    b: &mut [u8],
+    a: Arena,
+    dead: u32,
+    white: u32,
+    i: usize,
+    s: Sweep,
+) -> Sweep
+    requires { ⌜ Room a (now w) ⌝ }
+    requires { ⌜ Wide a (now b) ⌝ }
+    requires { ⌜ (i < a .slots) × (0 < s .left) × (s .freed ≤ i) ⌝ }
+    ensures does { λ r. ⌜ (r, heap (now (w .exit)) (now (b .exit))) ≡ visit a dead white i s (heap (now (w .entry)) (now (b .entry))) ⌝ }
+    ensures small { λ r. ⌜ r .freed ≤ i + 1 ⌝ }
+{
+    let c = colour_of(w, a, i);
+    if c == 0 {
+        return s;
+    }
+    if c == dead {
+        free_slot(w, b, a, i);
+        return Sweep {
+            left: s.left - 1,
+            freed: s.freed + 1,
+        };
+    }
+    set_colour(w, a, i, white);
+    Sweep {
+        left: s.left - 1,
+        freed: s.freed,
+    }
+}
+
+// Slots are visited upward from start, until max occupied ones were seen or the end, the fresh index.
+pub fn sweep_partial(
+    w: &mut [u32],
+    b: &mut [u8],
+    a: Arena,
+    dead: u32,
+    white: u32,
+    start: usize,
+    max: usize,
+) -> Swept
+    requires { ⌜ Room a (now w) ⌝ }
+    requires { ⌜ Wide a (now b) ⌝ }
+    ensures { λ r. ⌜ (r, heap (now (w .exit)) (now (b .exit))) ≡ sweepPartial a dead white start max (heap (now (w .entry)) (now (b .entry))) ⌝ }
+{
+    let end = used_of(w, a);
+    let mut s = Sweep {
+        left: max,
+        freed: 0,
+    };
+    let mut i = start;
+    while i < end {
+        if s.left == 0 {
+            return Swept {
+                freed: s.freed,
+                next: i,
+                done: end <= i,
+            };
+        }
+        s = visit_slot(w, b, a, dead, white, i, s);
+        i += 1;
+    }
+    Swept {
+        freed: s.freed,
+        next: i,
+        done: end <= i,
+    }
+}

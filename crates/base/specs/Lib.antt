@@ -1,0 +1,4 @@
+pub mod Ways
+pub mod Loop
+pub mod Words
+pub mod Heap
