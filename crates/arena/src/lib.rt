@@ -3,7 +3,7 @@
 // the parts of one lie. All contents of the words are taken as they are; only the places must lie within the buffers.
 use base::wide;
 ghost use mathlib.Core.Path.{_≡_};
-ghost use Prim.Native.Nat.{ℕ, _+_, _*_, _≤_, _<_};
+ghost use Prim.Native.Nat.{ℕ, _+_, _*_, _≤_, _<_, max};
 ghost use lib.ListN.{length};
 ghost use Rattle.base.specs.Heap.{heap};
 ghost use Rattle.arena.specs.Slots.{Room, Wide, colour, setColour, gen, setGen, link, setLink, extent, setExtent, head, setHead, fresh, setFresh, count, setCount, used, named, Within, tallied, occupied, clearBody, clearText, emptied, aged, pushed, countLess, countMore, chained, freeSlot, freed, filled, popped, opened, noRoom, takeHead, takeFresh, takeSlot, Taken, visit, sweepPartial};
@@ -476,7 +476,7 @@ fn visit_slot(
     }
 }
 
-// Slots are visited upward from start, until max occupied ones were seen or the end, the fresh index.
+// Slots are visited upward from start, until `most` occupied ones were seen or the end, the fresh index.
 pub fn sweep_partial(
     w: &mut [u32],
     b: &mut [u8],
@@ -484,15 +484,16 @@ pub fn sweep_partial(
     dead: u32,
     white: u32,
     start: usize,
-    max: usize,
+    most: usize,
 ) -> Swept
     requires { ⌜ Room a (now w) ⌝ }
     requires { ⌜ Wide a (now b) ⌝ }
-    ensures { λ r. ⌜ (r, heap (now (w .exit)) (now (b .exit))) ≡ sweepPartial a dead white start max (heap (now (w .entry)) (now (b .entry))) ⌝ }
+    ensures does { λ r. ⌜ (r, heap (now (w .exit)) (now (b .exit))) ≡ sweepPartial a dead white start most (heap (now (w .entry)) (now (b .entry))) ⌝ }
+    ensures small { λ r. ⌜ (r .freed ≤ a .slots) × (r .next ≤ max start (a .slots)) ⌝ }
 {
     let end = used_of(w, a);
     let mut s = Sweep {
-        left: max,
+        left: most,
         freed: 0,
     };
     let mut i = start;

@@ -1,5 +1,5 @@
 -- `arena::sweep_partial` meets its contract: what is left of the loop gives the whole. Assumes nothing.
-use Prim.Native.Nat.{ℕ, _≤_, _-_}
+use Prim.Native.Nat.{ℕ, _≤_, _-_, max}
 use borrow.Author.Needs.{needs}
 use lib.ListN.{length}
 use mathlib.Core.List.{List}
@@ -18,18 +18,20 @@ pub record Inv (w₀ b₀ : List ℕ) (a : Arena) (dead white start end : ℕ) (
   pub long : length w ≡ length w₀
   pub wide : length b ≡ length b₀
   pub few : s .freed ≤ i
+  pub under : s .freed ≤ a .slots
+  pub near : i ≤ max start (a .slots)
 
 abbrev Inv-loop : tie.InvT-loop
-Inv-loop w₀ b₀ a dead white start max end s₀ i₀ w b s i = Inv w₀ b₀ a dead white start end s₀ w b s i
+Inv-loop w₀ b₀ a dead white start most end s₀ i₀ w b s i = Inv w₀ b₀ a dead white start end s₀ w b s i
 
 abbrev μ-loop : tie.MeasureT-loop
-μ-loop w₀ b₀ a dead white start max end s₀ i₀ w b s i = end - i
+μ-loop w₀ b₀ a dead white start most end s₀ i₀ w b s i = end - i
 
 used-of-requires : tie.Need-used-of-requires Inv-loop μ-loop
 used-of-requires c κs = search needs
 
 loop-holds : tie.Need-loop-holds Inv-loop μ-loop
-loop-holds c = record { rest = refl; long = refl; wide = refl; few = omega arith }
+loop-holds c = record { rest = refl; long = refl; wide = refl; few = omega arith; under = omega arith; near = omega arith }
 
 same-length : tie.Need-same-length Inv-loop μ-loop
 same-length c = search needs
@@ -39,7 +41,9 @@ same-length-2 c = search needs
 
 returns : tie.Need-returns Inv-loop μ-loop
 unfolding sweepPartial
-returns c = rw (← c .before .before .before .before .used-of .ensures .0) (ap (swept _) (scan-halt _ _ _ (c .before .before .before .loop .inv .rest) (omega arith)))
+returns c =
+  (rw (← c .before .before .before .before .used-of .ensures .0) (ap (swept _) (scan-halt _ _ _ (c .before .before .before .loop .inv .rest) (omega arith))),
+  (omega arith, omega arith))
 
 visit-slot-requires : tie.Need-visit-slot-requires Inv-loop μ-loop
 visit-slot-requires c κs = search needs
@@ -56,6 +60,8 @@ loop-again c = record {
   long = omega arith;
   wide = omega arith;
   few = omega arith;
+  under = omega arith;
+  near = omega arith;
 }
 
 same-length-3 : tie.Need-same-length-3 Inv-loop μ-loop
@@ -66,7 +72,9 @@ same-length-4 c = search needs
 
 returns-2 : tie.Need-returns-2 Inv-loop μ-loop
 unfolding sweepPartial
-returns-2 c = rw (← c .before .before .used-of .ensures .0) (ap (swept _) (scan-end _ _ (c .before .loop .inv .rest) (omega arith)))
+returns-2 c =
+  (rw (← c .before .before .used-of .ensures .0) (ap (swept _) (scan-end _ _ (c .before .loop .inv .rest) (omega arith))),
+  (omega arith, omega arith))
 
 pub sweep-partial-spec : {M : Type 1} → statement M
 sweep-partial-spec =

@@ -1,0 +1,12 @@
+//! One arena of ours, from the static library, beside the source's own, in one process.
+//!
+//! [`Ours`] is the proved arena in lent words; [`oracle::slots::Slots`] the source's `Arena<T>`,
+//! unchanged. [`Pair`] makes the same operations on both and holds every slot, chain and answer of
+//! one to the other after each.
+
+mod ours;
+mod pair;
+pub mod run;
+
+pub use ours::{Ours, Refused, Swept};
+pub use pair::{Operation, Pair};

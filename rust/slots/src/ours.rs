@@ -1,0 +1,224 @@
+//! The proved arena behind a safe interface. All that is unsafe in this crate stands here.
+
+/// Words of a slot's body in this comparison.
+pub const STRIDE: usize = 2;
+/// Bytes of a slot in this comparison.
+pub const WIDTH: usize = 4;
+
+mod exported {
+    // A slice passes as a pointer and a length. Nothing checks these declarations against the
+    // Rattle source, so they are few, and `Ours` is compared with the source at every call.
+    unsafe extern "C" {
+        pub fn sieddesan_arena_take(
+            w: *mut u32,
+            w_len: usize,
+            b: *const u8,
+            b_len: usize,
+            slots: usize,
+            stride: usize,
+            width: usize,
+            colour: u32,
+            size: u32,
+            out: *mut u32,
+            out_len: usize,
+        ) -> u32;
+        pub fn sieddesan_arena_free(
+            w: *mut u32,
+            w_len: usize,
+            b: *mut u8,
+            b_len: usize,
+            slots: usize,
+            stride: usize,
+            width: usize,
+            index: u32,
+            generation: u32,
+        ) -> u32;
+        pub fn sieddesan_arena_paint(
+            w: *mut u32,
+            w_len: usize,
+            b: *const u8,
+            b_len: usize,
+            slots: usize,
+            stride: usize,
+            width: usize,
+            index: u32,
+            generation: u32,
+            colour: u32,
+        ) -> u32;
+        pub fn sieddesan_arena_sweep(
+            w: *mut u32,
+            w_len: usize,
+            b: *mut u8,
+            b_len: usize,
+            slots: usize,
+            stride: usize,
+            width: usize,
+            dead: u32,
+            white: u32,
+            start: u32,
+            most: u32,
+            out: *mut u32,
+            out_len: usize,
+        ) -> u32;
+    }
+}
+
+/// A refusal number of document 01.
+#[derive(Clone, Copy, Debug, PartialEq, Eq)]
+pub struct Refused(pub u32);
+
+/// What a sweep did, where the next one starts, and whether it reached the end.
+#[derive(Clone, Copy, Debug, PartialEq, Eq)]
+pub struct Swept {
+    pub freed: u32,
+    pub next: u32,
+    pub done: bool,
+}
+
+/// An arena in words and bytes of its own.
+#[derive(Clone, Debug, PartialEq, Eq)]
+pub struct Ours {
+    pub slots: usize,
+    pub words: Vec<u32>,
+    pub bytes: Vec<u8>,
+}
+
+fn answered(code: u32) -> Result<(), Refused> {
+    if code == 0 { Ok(()) } else { Err(Refused(code)) }
+}
+
+impl Ours {
+    /// Zeroed words are an empty arena.
+    pub fn new(slots: usize) -> Self {
+        Self {
+            slots,
+            words: vec![0; 3 + (4 + STRIDE) * slots],
+            bytes: vec![0; WIDTH * slots],
+        }
+    }
+
+    pub fn take(&mut self, colour: u32) -> Result<(u32, u32), Refused> {
+        let mut out = [0; 3];
+        // SAFETY: each pointer is that of a live slice, with its length; the function has no
+        // requirement and writes only within the lengths given.
+        let code = unsafe {
+            exported::sieddesan_arena_take(
+                self.words.as_mut_ptr(),
+                self.words.len(),
+                self.bytes.as_ptr(),
+                self.bytes.len(),
+                self.slots,
+                STRIDE,
+                WIDTH,
+                colour,
+                STRIDE as u32,
+                out.as_mut_ptr(),
+                out.len(),
+            )
+        };
+        answered(code).map(|()| (out[0], out[1]))
+    }
+
+    pub fn free(&mut self, index: u32, generation: u32) -> Result<(), Refused> {
+        // SAFETY: as in `take`.
+        let code = unsafe {
+            exported::sieddesan_arena_free(
+                self.words.as_mut_ptr(),
+                self.words.len(),
+                self.bytes.as_mut_ptr(),
+                self.bytes.len(),
+                self.slots,
+                STRIDE,
+                WIDTH,
+                index,
+                generation,
+            )
+        };
+        answered(code)
+    }
+
+    pub fn paint(&mut self, index: u32, generation: u32, colour: u32) -> Result<(), Refused> {
+        // SAFETY: as in `take`.
+        let code = unsafe {
+            exported::sieddesan_arena_paint(
+                self.words.as_mut_ptr(),
+                self.words.len(),
+                self.bytes.as_ptr(),
+                self.bytes.len(),
+                self.slots,
+                STRIDE,
+                WIDTH,
+                index,
+                generation,
+                colour,
+            )
+        };
+        answered(code)
+    }
+
+    pub fn sweep(
+        &mut self,
+        dead: u32,
+        white: u32,
+        start: u32,
+        most: u32,
+    ) -> Result<Swept, Refused> {
+        let mut out = [0; 3];
+        // SAFETY: as in `take`.
+        let code = unsafe {
+            exported::sieddesan_arena_sweep(
+                self.words.as_mut_ptr(),
+                self.words.len(),
+                self.bytes.as_mut_ptr(),
+                self.bytes.len(),
+                self.slots,
+                STRIDE,
+                WIDTH,
+                dead,
+                white,
+                start,
+                most,
+                out.as_mut_ptr(),
+                out.len(),
+            )
+        };
+        answered(code).map(|()| Swept {
+            freed: out[0],
+            next: out[1],
+            done: out[2] == 1,
+        })
+    }
+
+    /// The fresh index.
+    pub fn fresh(&self) -> u32 {
+        self.words[1]
+    }
+
+    /// The count of occupied slots.
+    pub fn count(&self) -> u32 {
+        self.words[2]
+    }
+
+    /// Generation and colour of slot `i`.
+    pub fn slot(&self, i: usize) -> (u32, u32) {
+        (self.words[3 + self.slots + i], self.words[3 + i])
+    }
+
+    /// The free chain from its head; a chain that turns back is cut after all slots.
+    pub fn chain(&self) -> impl Iterator<Item = u32> {
+        let link = |x: u32| self.words[3 + 2 * self.slots + x as usize - 1];
+        std::iter::successors(Some(self.words[0]), move |&x| Some(link(x)))
+            .take_while(|&x| x != 0)
+            .take(self.slots + 1)
+            .map(|x| x - 1)
+    }
+
+    /// The words and the bytes of slot `i`'s body.
+    pub fn body(&mut self, i: usize) -> (&mut [u32], &mut [u8]) {
+        let at = 3 + 4 * self.slots + STRIDE * i;
+        (
+            &mut self.words[at..at + STRIDE],
+            &mut self.bytes[WIDTH * i..WIDTH * (i + 1)],
+        )
+    }
+}
