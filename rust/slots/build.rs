@@ -8,7 +8,9 @@ fn main() {
     let archive = folder.join("libarena_engine.a");
     println!("cargo::rerun-if-changed={}", archive.display());
     if !archive.exists() {
-        println!("cargo::error=no libarena_engine.a: run `rt staticlib arena_engine` at the repository's root first");
+        println!(
+            "cargo::error=no libarena_engine.a: run `rt staticlib arena_engine` at the repository's root first"
+        );
     }
     println!("cargo::rustc-link-search=native={}", folder.display());
     println!("cargo::rustc-link-lib=static=arena_engine");

@@ -1,6 +1,10 @@
 // One arena for Rust or C to link: numbers and slices only. The arena lies from word 0 on: head, fresh index, count, then
 // colours, generations, links, extents, then the bodies. Buffers that are too short for it are refused with 1.
-use arena::{Arena, Freed, Named, Swept, Took};
+use arena::Arena;
+use arena::Freed;
+use arena::Named;
+use arena::Swept;
+use arena::Took;
 ghost use mathlib.Core.Path.{_≡_};
 ghost use Prim.Native.Nat.{ℕ, _+_, _*_, _^_, _≤_, _<_};
 ghost use lib.ListN.{length};

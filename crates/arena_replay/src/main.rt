@@ -1,7 +1,10 @@
 // Replays a fixed list of arena operations and prints each answer with the state after it. The answers in `stdout` were
 // given by the source's own arena (rust/slots, `list`), so that this comparison needs no Rust at hand.
 // A line is `take COLOUR`, `free INDEX GENERATION`, `paint INDEX GENERATION COLOUR` or `sweep DEAD WHITE START MOST`.
-use arena::{Arena, Freed, Named, Took};
+use arena::Arena;
+use arena::Freed;
+use arena::Named;
+use arena::Took;
 use libc::STDOUT_FILENO;
 ghost use mathlib.Core.Path.{_≡_};
 ghost use Prim.Native.Nat.{_+_, _≤_, _<_};
@@ -59,7 +62,11 @@ fn wide8(x: u8) -> u64
 // A number with one more digit, which stops at 32 bits.
 fn longer(value: u32, digit: u8) -> u32 {
     let long = (value as u64) * 10 + wide8(digit);
-    if long < 4294967296 { long as u32 } else { 4294967295 }
+    if long < 4294967296 {
+        long as u32
+    } else {
+        4294967295
+    }
 }
 
 // The number at or past `at` on this line, 0 if there is none.
@@ -141,7 +148,15 @@ fn say_swept(freed: u64, next: u64, done: bool) {
 }
 
 fn sweep(w: &mut [u32; 147], b: &mut [u8; 96], dead: u32, white: u32, start: u32, most: u32) {
-    let s = arena::sweep_partial(w, b, PLACE, dead, white, base::wide(start), base::wide(most));
+    let s = arena::sweep_partial(
+        w,
+        b,
+        PLACE,
+        dead,
+        white,
+        base::wide(start),
+        base::wide(most),
+    );
     say_swept(s.freed as u64, s.next as u64, s.done);
 }
 

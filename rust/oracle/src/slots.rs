@@ -28,7 +28,9 @@ impl Default for Slots {
 
 impl Slots {
     pub fn new() -> Self {
-        Self { arena: Arena::new() }
+        Self {
+            arena: Arena::new(),
+        }
     }
 
     /// Index and generation of the slot that now holds `value`.
@@ -47,13 +49,15 @@ impl Slots {
     }
 
     pub fn paint(&mut self, index: u32, generation: u32, number: u32) -> bool {
-        self.arena.set_color(GcRef::named(index, generation), colour(number))
+        self.arena
+            .set_color(GcRef::named(index, generation), colour(number))
     }
 
     /// How many were freed, the next position, whether the sweep is done.
     #[inline]
     pub fn sweep(&mut self, dead: u32, white: u32, start: u32, most: u32) -> (u32, u32, bool) {
-        self.arena.sweep_partial(colour(dead), colour(white), start, most)
+        self.arena
+            .sweep_partial(colour(dead), colour(white), start, most)
     }
 
     /// How many slots are occupied.

@@ -4,9 +4,10 @@
 //! unchanged. [`Pair`] makes the same operations on both and holds every slot, chain and answer of
 //! one to the other after each.
 
+pub mod list;
 mod ours;
 mod pair;
 pub mod run;
 
 pub use ours::{Ours, Refused, Swept};
-pub use pair::{Operation, Pair};
+pub use pair::{Answer, Operation, Pair};

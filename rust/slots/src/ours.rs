@@ -84,7 +84,11 @@ pub struct Ours {
 }
 
 fn answered(code: u32) -> Result<(), Refused> {
-    if code == 0 { Ok(()) } else { Err(Refused(code)) }
+    if code == 0 {
+        Ok(())
+    } else {
+        Err(Refused(code))
+    }
 }
 
 impl Ours {

@@ -7,10 +7,24 @@ use std::fmt;
 /// One operation of the arena. Colours are 1 and 2 (the whites), 3 (gray) and 4 (black).
 #[derive(Clone, Copy, Debug, PartialEq, Eq)]
 pub enum Operation {
-    Take { colour: u32 },
-    Free { index: u32, generation: u32 },
-    Paint { index: u32, generation: u32, colour: u32 },
-    Sweep { dead: u32, white: u32, start: u32, most: u32 },
+    Take {
+        colour: u32,
+    },
+    Free {
+        index: u32,
+        generation: u32,
+    },
+    Paint {
+        index: u32,
+        generation: u32,
+        colour: u32,
+    },
+    Sweep {
+        dead: u32,
+        white: u32,
+        start: u32,
+        most: u32,
+    },
 }
 
 /// An answer, as the list of answers has it.
@@ -27,10 +41,19 @@ impl fmt::Display for Operation {
         match *self {
             Self::Take { colour } => write!(f, "take {colour}"),
             Self::Free { index, generation } => write!(f, "free {index} {generation}"),
-            Self::Paint { index, generation, colour } => {
+            Self::Paint {
+                index,
+                generation,
+                colour,
+            } => {
                 write!(f, "paint {index} {generation} {colour}")
             }
-            Self::Sweep { dead, white, start, most } => {
+            Self::Sweep {
+                dead,
+                white,
+                start,
+                most,
+            } => {
                 write!(f, "sweep {dead} {white} {start} {most}")
             }
         }
@@ -77,25 +100,35 @@ impl Pair {
         if let Answer::Slot(index, _) = ours {
             self.fill(index as usize);
         }
-        self.compare().map_err(|what| format!("{operation}: {what}"))?;
+        self.compare()
+            .map_err(|what| format!("{operation}: {what}"))?;
         Ok(ours)
     }
 
     fn on_ours(&mut self, operation: Operation) -> Answer {
         let refused = |r: Result<Answer, Refused>| r.unwrap_or_else(Answer::Refused);
         refused(match operation {
-            Operation::Take { colour } => {
-                self.ours.take(colour).map(|(index, g)| Answer::Slot(index, g))
-            }
+            Operation::Take { colour } => self
+                .ours
+                .take(colour)
+                .map(|(index, g)| Answer::Slot(index, g)),
             Operation::Free { index, generation } => {
                 self.ours.free(index, generation).map(|()| Answer::Done)
             }
-            Operation::Paint { index, generation, colour } => {
-                self.ours.paint(index, generation, colour).map(|()| Answer::Done)
-            }
-            Operation::Sweep { dead, white, start, most } => {
-                self.ours.sweep(dead, white, start, most).map(Answer::Swept)
-            }
+            Operation::Paint {
+                index,
+                generation,
+                colour,
+            } => self
+                .ours
+                .paint(index, generation, colour)
+                .map(|()| Answer::Done),
+            Operation::Sweep {
+                dead,
+                white,
+                start,
+                most,
+            } => self.ours.sweep(dead, white, start, most).map(Answer::Swept),
         })
     }
 
@@ -112,17 +145,29 @@ impl Pair {
                 Answer::Slot(index, generation)
             }
             Operation::Free { index, generation } => {
-                let freed = self.source.names(index, generation) && self.source.free(index, generation);
+                let freed =
+                    self.source.names(index, generation) && self.source.free(index, generation);
                 if freed { Answer::Done } else { stale }
             }
-            Operation::Paint { index, generation, colour } => {
+            Operation::Paint {
+                index,
+                generation,
+                colour,
+            } => {
                 let painted = self.source.paint(index, generation, colour);
                 if painted { Answer::Done } else { stale }
             }
-            Operation::Sweep { start, .. } if start > self.source.fresh() => {
-                Answer::Swept(Swept { freed: 0, next: start, done: true })
-            }
-            Operation::Sweep { dead, white, start, most } => {
+            Operation::Sweep { start, .. } if start > self.source.fresh() => Answer::Swept(Swept {
+                freed: 0,
+                next: start,
+                done: true,
+            }),
+            Operation::Sweep {
+                dead,
+                white,
+                start,
+                most,
+            } => {
                 let (freed, next, done) = self.source.sweep(dead, white, start, most);
                 Answer::Swept(Swept { freed, next, done })
             }
@@ -139,10 +184,18 @@ impl Pair {
 
     fn compare(&mut self) -> Result<(), String> {
         if self.ours.fresh() != self.source.fresh() {
-            return Err(format!("fresh index {} and {}", self.ours.fresh(), self.source.fresh()));
+            return Err(format!(
+                "fresh index {} and {}",
+                self.ours.fresh(),
+                self.source.fresh()
+            ));
         }
         if self.ours.count() != self.source.count() {
-            return Err(format!("count {} and {}", self.ours.count(), self.source.count()));
+            return Err(format!(
+                "count {} and {}",
+                self.ours.count(),
+                self.source.count()
+            ));
         }
         if !self.ours.chain().eq(self.source.chain()) {
             let ours: Vec<u32> = self.ours.chain().collect();
@@ -162,7 +215,9 @@ impl Pair {
         let word = value.unwrap_or(0);
         let byte = value.map_or(0, |v| 1 + (v % 255) as u8);
         if words.iter().any(|&x| x != word) || bytes.iter().any(|&x| x != byte) {
-            return Err(format!("slot {i}: body {words:?} {bytes:?}, value {value:?}"));
+            return Err(format!(
+                "slot {i}: body {words:?} {bytes:?}, value {value:?}"
+            ));
         }
         Ok(())
     }

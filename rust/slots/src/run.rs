@@ -31,7 +31,7 @@ fn one_arena(random: &mut Random, slots: usize, length: u64) -> Result<(), Strin
 
 /// A handle of a slot below the fresh index or just past it, mostly of its generation.
 fn handle(random: &mut Random, pair: &Pair) -> (u32, u32) {
-    let index = random.below(u64::from(pair.source.fresh()) + 2) as u32;
+    let index = random.below(pair.source.fresh() + 2);
     let generation = if index < pair.source.fresh() {
         pair.source.slot(index as usize).0
     } else {
@@ -42,27 +42,34 @@ fn handle(random: &mut Random, pair: &Pair) -> (u32, u32) {
 }
 
 fn colour(random: &mut Random) -> u32 {
-    1 + random.below(4) as u32
+    1 + random.below(4)
 }
 
-pub(crate) fn choose(random: &mut Random, pair: &Pair) -> Operation {
+/// A random operation that fits the state of both.
+pub fn choose(random: &mut Random, pair: &Pair) -> Operation {
     match random.below(10) {
-        0..=3 => Operation::Take { colour: colour(random) },
+        0..=3 => Operation::Take {
+            colour: colour(random),
+        },
         4..=5 => {
             let (index, generation) = handle(random, pair);
             Operation::Free { index, generation }
         }
         6..=8 => {
             let (index, generation) = handle(random, pair);
-            Operation::Paint { index, generation, colour: colour(random) }
+            Operation::Paint {
+                index,
+                generation,
+                colour: colour(random),
+            }
         }
         _ => {
-            let dead = 1 + random.below(2) as u32;
+            let dead = 1 + random.below(2);
             Operation::Sweep {
                 dead,
                 white: 3 - dead,
-                start: random.below(u64::from(pair.source.fresh()) + 3) as u32,
-                most: random.below(100) as u32,
+                start: random.below(pair.source.fresh() + 3),
+                most: random.below(100),
             }
         }
     }
@@ -78,8 +85,13 @@ pub fn every_sweep(seed: u64, slots: usize) -> Result<u64, String> {
             for most in 0..=n as u32 + 1 {
                 let mut pair = Pair::new(n);
                 scatter(&mut random, &mut pair, n)?;
-                let dead = 1 + random.below(2) as u32;
-                let sweep = Operation::Sweep { dead, white: 3 - dead, start, most };
+                let dead = 1 + random.below(2);
+                let sweep = Operation::Sweep {
+                    dead,
+                    white: 3 - dead,
+                    start,
+                    most,
+                };
                 pair.apply(sweep).map_err(|e| format!("{n} slots: {e}"))?;
                 made += 1;
             }
@@ -96,7 +108,10 @@ fn scatter(random: &mut Random, pair: &mut Pair, n: usize) -> Result<(), String>
     }
     for index in 0..n as u32 {
         if random.below(4) == 0 {
-            pair.apply(Operation::Free { index, generation: 0 })?;
+            pair.apply(Operation::Free {
+                index,
+                generation: 0,
+            })?;
         }
     }
     Ok(())

@@ -41,9 +41,10 @@ same-length-2 c = search needs
 
 returns : tie.Need-returns Inv-loop μ-loop
 unfolding sweepPartial
-returns c =
-  (rw (← c .before .before .before .before .used-of .ensures .0) (ap (swept _) (scan-halt _ _ _ (c .before .before .before .loop .inv .rest) (omega arith))),
-  (omega arith, omega arith))
+returns c = (
+  rw (← c .before .before .before .before .used-of .ensures .0) (ap (swept _) (scan-halt _ _ _ (c .before .before .before .loop .inv .rest) (omega arith))),
+  (omega arith, omega arith),
+)
 
 visit-slot-requires : tie.Need-visit-slot-requires Inv-loop μ-loop
 visit-slot-requires c κs = search needs
@@ -72,9 +73,10 @@ same-length-4 c = search needs
 
 returns-2 : tie.Need-returns-2 Inv-loop μ-loop
 unfolding sweepPartial
-returns-2 c =
-  (rw (← c .before .before .used-of .ensures .0) (ap (swept _) (scan-end _ _ (c .before .loop .inv .rest) (omega arith))),
-  (omega arith, omega arith))
+returns-2 c = (
+  rw (← c .before .before .used-of .ensures .0) (ap (swept _) (scan-end _ _ (c .before .loop .inv .rest) (omega arith))),
+  (omega arith, omega arith),
+)
 
 pub sweep-partial-spec : {M : Type 1} → statement M
 sweep-partial-spec =

@@ -1,46 +1,34 @@
-use mathlib.Core.Path.{_≡_, refl}
-use Rattle.arena_engine.specs.Exports.{freeIn}
+-- `arena_engine::free_in` meets its contract: the callees' equations joined. Assumes nothing.
 use borrow.Author.Needs.{needs}
+use Rattle.arena_engine.specs.Exports.{freeIn}
 use Rattle.arena_engine.proofs.free_in.Statement.{statement}
 use Rattle.arena_engine.proofs.free_in.Tie as tie
-use Rattle.arena_engine.proofs.free_in.Reads as reads
-use Rattle.arena_engine.proofs.free_in.Lts as lts
-use Rattle.arena.proofs.free.Reads as free-reads
 
--- src/lib.rt:98:11
 free-requires : tie.Need-free-requires
 free-requires c κs = search needs
 
--- src/lib.rt:99:24
 enum-told : tie.Need-enum-told
 enum-told c = search needs
 
--- src/lib.rt:100:24
 enum-known-r : tie.Need-enum-known-r
 enum-known-r c = search needs
 
--- src/lib.rt:93:1
 same-length : tie.Need-same-length
 same-length c = search needs
 
--- src/lib.rt:93:1
 same-length-2 : tie.Need-same-length-2
 same-length-2 c = search needs
 
--- src/lib.rt:93:1
 returns : tie.Need-returns
 unfolding freeIn
 returns c = rw (← c .before .before .before .before .before .before .free .ensures, c .enum-told .given .1) (cc)
 
--- src/lib.rt:93:1
 same-length-3 : tie.Need-same-length-3
 same-length-3 c = search needs
 
--- src/lib.rt:93:1
 same-length-4 : tie.Need-same-length-4
 same-length-4 c = search needs
 
--- src/lib.rt:93:1
 returns-2 : tie.Need-returns-2
 unfolding freeIn
 returns-2 c = rw (← c .before .before .before .before .before .before .before .free .ensures, c .before .r .given .1) (cc)

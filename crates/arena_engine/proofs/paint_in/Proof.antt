@@ -1,43 +1,31 @@
-use mathlib.Core.Path.{_≡_, refl}
-use Rattle.arena_engine.specs.Exports.{paintIn}
+-- `arena_engine::paint_in` meets its contract: the callees' equations joined. Assumes nothing.
 use borrow.Author.Needs.{needs}
+use Rattle.arena_engine.specs.Exports.{paintIn}
 use Rattle.arena_engine.proofs.paint_in.Statement.{statement}
 use Rattle.arena_engine.proofs.paint_in.Tie as tie
-use Rattle.arena_engine.proofs.paint_in.Reads as reads
-use Rattle.arena_engine.proofs.paint_in.Lts as lts
-use Rattle.arena.proofs.name_of.Reads as name-of-reads
-use Rattle.arena.proofs.set_colour.Reads as set-colour-reads
 
--- src/lib.rt:127:11
 name-of-requires : tie.Need-name-of-requires
 name-of-requires c κs = search needs
 
--- src/lib.rt:128:19
 enum-known-i : tie.Need-enum-known-i
 enum-known-i c = search needs
 
--- src/lib.rt:129:13
 set-colour-requires : tie.Need-set-colour-requires
 set-colour-requires c κs = (c .before .before .before .before .before .before .before .pre, rw (c .before .before .i .given .1) at (c .before .before .before .before .name-of .ensures .1))
 
--- src/lib.rt:132:25
 enum-told : tie.Need-enum-told
 enum-told c = search needs
 
--- src/lib.rt:123:1
 same-length : tie.Need-same-length
 same-length c = search needs
 
--- src/lib.rt:123:1
 returns : tie.Need-returns
 unfolding paintIn
 returns c = rw (← c .before .before .before .before .before .before .before .name-of .ensures .0, c .before .before .before .before .before .i .given .1) (cc)
 
--- src/lib.rt:123:1
 same-length-2 : tie.Need-same-length-2
 same-length-2 c = search needs
 
--- src/lib.rt:123:1
 returns-2 : tie.Need-returns-2
 unfolding paintIn
 returns-2 c = rw (← c .before .before .name-of .ensures .0, c .enum-told .given .1)

@@ -1,39 +1,28 @@
-use mathlib.Core.Path.{_≡_, refl}
-use Rattle.arena_engine.specs.Exports.{paintOn, lies-room}
+-- `arena_engine::sieddesan_arena_paint` meets its contract: from what its callees promise. Assumes nothing.
 use borrow.Author.Needs.{needs}
+use Rattle.arena_engine.specs.Exports.{paintOn, lies-room}
 use Rattle.arena_engine.proofs.sieddesan_arena_paint.Statement.{statement}
 use Rattle.arena_engine.proofs.sieddesan_arena_paint.Tie as tie
-use Rattle.arena_engine.proofs.sieddesan_arena_paint.Reads as reads
-use Rattle.arena_engine.proofs.sieddesan_arena_paint.Lts as lts
-use Rattle.arena_engine.proofs.paint_in.Reads as paint-in-reads
-use Rattle.arena_engine.proofs.place.Reads as place-reads
 
--- src/lib.rt:150:11
 place-requires : tie.Need-place-requires
 place-requires c κs = search needs
 
--- src/lib.rt:151:22
 enum-known-a : tie.Need-enum-known-a
 enum-known-a c = search needs
 
--- src/lib.rt:151:28
 paint-in-requires : tie.Need-paint-in-requires
 paint-in-requires c κs = lies-room _ _ _ (rw (c .before .before .a .given .1) at (c .before .before .before .before .place .ensures .1))
 
--- src/lib.rt:152:25
 enum-known-r : tie.Need-enum-known-r
 enum-known-r c = search needs
 
--- src/lib.rt:137:1
 same-length : tie.Need-same-length
 same-length c = search needs
 
--- src/lib.rt:137:1
 returns : tie.Need-returns
 unfolding paintOn
 returns c = rw (← c .before .before .before .before .before .before .before .place .ensures .0, c .before .before .before .before .before .a .given .1) (c .before .before .paint-in .ensures)
 
--- src/lib.rt:137:1
 returns-2 : tie.Need-returns-2
 unfolding paintOn
 returns-2 c = rw (← c .before .before .before .place .ensures .0, c .before .r .given .1)

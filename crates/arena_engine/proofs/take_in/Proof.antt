@@ -1,65 +1,48 @@
-use native.Mathlib.Omega.{arith}
-use mathlib.Core.Path.{_≡_, refl}
-use Rattle.arena_engine.specs.Exports.{takeIn}
+-- `arena_engine::take_in` meets its contract: the callees' equations joined. Assumes nothing.
 use borrow.Author.Needs.{needs}
+use native.Mathlib.Omega.{arith}
+use Rattle.arena_engine.specs.Exports.{takeIn}
 use Rattle.arena_engine.proofs.take_in.Statement.{statement}
 use Rattle.arena_engine.proofs.take_in.Tie as tie
-use Rattle.arena_engine.proofs.take_in.Reads as reads
-use Rattle.arena_engine.proofs.take_in.Lts as lts
-use Rattle.arena.proofs.take_slot.Reads as take-slot-reads
-use Rattle.arena_engine.proofs.tell.Reads as tell-reads
 
--- src/lib.rt:60:11
 take-slot-requires : tie.Need-take-slot-requires
 take-slot-requires c κs = search needs
 
--- src/lib.rt:61:20
 enum-known-i : tie.Need-enum-known-i
 enum-known-i c = search needs
 
--- src/lib.rt:62:23
 cast-tell : tie.Need-cast-tell
 cast-tell c = omega (arith, rw (c .before .before .i .given .1) at (c .before .before .before .before .before .before .take-slot .ensures .1))
 
--- src/lib.rt:62:13
 tell-requires : tie.Need-tell-requires
 tell-requires c κs = search needs
 
--- src/lib.rt:65:23
 enum-told : tie.Need-enum-told
 enum-told c = search needs
 
--- src/lib.rt:66:26
 enum-told-2 : tie.Need-enum-told-2
 enum-told-2 c = search needs
 
--- src/lib.rt:55:1
 same-length : tie.Need-same-length
 same-length c = search needs
 
--- src/lib.rt:55:1
 same-length-2 : tie.Need-same-length-2
 same-length-2 c = search needs
 
--- src/lib.rt:55:1
 returns : tie.Need-returns
 unfolding takeIn
 returns c = rw (← c .before .before .before .before .before .before .before .before .before .take-slot .ensures .0, c .before .before .before .before .before .i .given .1) (cc)
 
--- src/lib.rt:55:1
 same-length-3 : tie.Need-same-length-3
 same-length-3 c = search needs
 
--- src/lib.rt:55:1
 returns-2 : tie.Need-returns-2
 unfolding takeIn
 returns-2 c = rw (← c .before .before .before .before .take-slot .ensures .0, c .enum-told .given .1) (cc)
 
--- src/lib.rt:55:1
 same-length-4 : tie.Need-same-length-4
 same-length-4 c = search needs
 
--- src/lib.rt:55:1
 returns-3 : tie.Need-returns-3
 unfolding takeIn
 returns-3 c = rw (← c .before .before .before .before .take-slot .ensures .0, c .enum-told2 .given .1) (cc)

@@ -3,7 +3,9 @@
 use std::process::ExitCode;
 
 fn number(word: Option<String>, otherwise: u64) -> Result<u64, String> {
-    word.map_or(Ok(otherwise), |w| w.parse().map_err(|_| format!("not a number: {w}")))
+    word.map_or(Ok(otherwise), |w| {
+        w.parse().map_err(|_| format!("not a number: {w}"))
+    })
 }
 
 fn compared() -> Result<String, String> {
@@ -12,7 +14,9 @@ fn compared() -> Result<String, String> {
     let seed = number(words.next(), 1)?;
     let random = slots::run::random(seed, operations)?;
     let sweeps = slots::run::every_sweep(seed, 12)?;
-    Ok(format!("arena: {random} random operations and {sweeps} sweeps compared, seed {seed}: no difference"))
+    Ok(format!(
+        "arena: {random} random operations and {sweeps} sweeps compared, seed {seed}: no difference"
+    ))
 }
 
 fn main() -> ExitCode {

@@ -1,0 +1,13 @@
+pub mod Words
+pub mod Counts
+pub mod Chain
+pub mod Starts
+pub mod Changes
+pub mod Names
+pub mod Keeps
+pub mod Frames
+pub mod Takes
+pub mod Frees
+pub mod Sweeps
+pub mod Lives
+pub mod Example
