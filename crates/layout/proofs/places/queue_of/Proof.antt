@@ -1,0 +1,13 @@
+-- `layout::places::queue_of` meets its contract: the callees' equations joined. Assumes nothing.
+use borrow.Author.Needs.{needs}
+use Rattle.layout.proofs.places.queue_of.Statement.{statement}
+use Rattle.layout.proofs.places.queue_of.Tie as tie
+
+queue-at-requires : tie.Need-queue-at-requires
+queue-at-requires c κs = search needs
+
+returns : tie.Need-returns
+returns c = cc
+
+pub queue-of-spec : {M : Type 1} → statement M
+queue-of-spec = tie.close (tie.spec queue-at-requires returns)

@@ -1,0 +1,16 @@
+-- `layout::places::tables_of` meets its contract: the callees' equations joined. Assumes nothing.
+use borrow.Author.Needs.{needs}
+use Rattle.layout.proofs.places.tables_of.Statement.{statement}
+use Rattle.layout.proofs.places.tables_of.Tie as tie
+
+table-bodies-at-requires : tie.Need-table-bodies-at-requires
+table-bodies-at-requires c κs = search needs
+
+tables-at-requires : tie.Need-tables-at-requires
+tables-at-requires c κs = search needs
+
+returns : tie.Need-returns
+returns c = cc
+
+pub tables-of-spec : {M : Type 1} → statement M
+tables-of-spec = tie.close (tie.spec table-bodies-at-requires tables-at-requires returns)

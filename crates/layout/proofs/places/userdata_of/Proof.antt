@@ -1,0 +1,16 @@
+-- `layout::places::userdata_of` meets its contract: the callees' equations joined. Assumes nothing.
+use borrow.Author.Needs.{needs}
+use Rattle.layout.proofs.places.userdata_of.Statement.{statement}
+use Rattle.layout.proofs.places.userdata_of.Tie as tie
+
+userdata-bodies-at-requires : tie.Need-userdata-bodies-at-requires
+userdata-bodies-at-requires c κs = search needs
+
+userdata-at-requires : tie.Need-userdata-at-requires
+userdata-at-requires c κs = search needs
+
+returns : tie.Need-returns
+returns c = cc
+
+pub userdata-of-spec : {M : Type 1} → statement M
+userdata-of-spec = tie.close (tie.spec userdata-bodies-at-requires userdata-at-requires returns)

@@ -1,0 +1,16 @@
+-- `layout::places::weak_of` meets its contract: the callees' equations joined. Assumes nothing.
+use borrow.Author.Needs.{needs}
+use Rattle.layout.proofs.places.weak_of.Statement.{statement}
+use Rattle.layout.proofs.places.weak_of.Tie as tie
+
+weak-at-requires : tie.Need-weak-at-requires
+weak-at-requires c κs = search needs
+
+weak-room-requires : tie.Need-weak-room-requires
+weak-room-requires c κs = search needs
+
+returns : tie.Need-returns
+returns c = cc
+
+pub weak-of-spec : {M : Type 1} → statement M
+weak-of-spec = tie.close (tie.spec weak-at-requires weak-room-requires returns)

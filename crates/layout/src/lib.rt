@@ -1,0 +1,242 @@
+// Where everything lies in the two lent buffers (document 01, 'Sizes'), and what every call asks of them first.
+use arena::Arena;
+
+mod places;
+mod test1;
+
+ghost use mathlib.Core.Path.{_≡_};
+ghost use Prim.Native.Nat.{ℕ};
+ghost use lib.ListN.{length};
+ghost use Rattle.layout.specs.Sizes.{sizesFit};
+ghost use Rattle.layout.specs.Layout.{planned, neededOf};
+ghost use Rattle.layout.specs.Fits.{Gives, Plans};
+ghost use Rattle.layout.specs.Test1.{opened};
+
+// The places of the header (specs/Places.antt says what stands there).
+pub const PROTOTYPES: usize = 10;
+
+pub const TOP: usize = 11;
+
+pub const OPENS: usize = 12;
+
+pub const CI: usize = 13;
+
+pub const ERROR: usize = 14;
+
+pub const HOOK: usize = 17;
+
+pub const GLOBAL: usize = 20;
+
+pub const REGISTRY: usize = 22;
+
+pub const NAME_MODE: usize = 24;
+
+pub const NAME_GC: usize = 26;
+
+pub const METATABLES: usize = 28;
+
+pub const LIMIT: usize = 46;
+
+pub const PAUSE: usize = 48;
+
+pub const STEPMUL: usize = 49;
+
+pub const CREATION: usize = 50;
+
+pub const DAMAGE: usize = 52;
+
+pub const PHASE: usize = 53;
+
+pub const WHITE: usize = 54;
+
+pub const CURSOR_ARENA: usize = 55;
+
+pub const CURSOR_SLOT: usize = 56;
+
+pub const TOTAL: usize = 57;
+
+pub const PEAK: usize = 58;
+
+pub const ESTIMATE: usize = 59;
+
+pub const THRESHOLD: usize = 60;
+
+pub const DEBT: usize = 62;
+
+pub const INTERRUPTED: usize = 64;
+
+pub const OUT: usize = 65;
+
+pub const REMAINING: usize = 67;
+
+pub const GRAY: usize = 69;
+
+pub const GRAYAGAIN: usize = 70;
+
+pub const WEAK: usize = 71;
+
+pub const QUEUE: usize = 72;
+
+pub const STRINGS: usize = 73;
+
+pub const TABLES: usize = 76;
+
+pub const FUNCTIONS: usize = 79;
+
+pub const UPVALUES: usize = 82;
+
+pub const USERDATA: usize = 85;
+
+pub const THREADS: usize = 88;
+
+pub const HEADER: usize = 91;
+
+// The words of one record, item, value or handle, and the bytes of a string.
+pub const STRING_WORDS: usize = 1;
+
+pub const TABLE_WORDS: usize = 580;
+
+pub const FUNCTION_WORDS: usize = 53;
+
+pub const UPVALUE_WORDS: usize = 4;
+
+pub const USERDATA_WORDS: usize = 7;
+
+pub const THREAD_WORDS: usize = 268;
+
+pub const PROTO_WORDS: usize = 59;
+
+pub const ITEM_WORDS: usize = 3;
+
+pub const VALUE_WORDS: usize = 3;
+
+pub const HANDLE_WORDS: usize = 2;
+
+pub const STRING_BYTES: usize = 64;
+
+// The ten sizes that a heap is made with: the slots of each arena, prototypes, main stack, main open list, frames.
+pub struct Sizes {
+    pub strings: usize,
+    pub tables: usize,
+    pub functions: usize,
+    pub upvalues: usize,
+    pub userdata: usize,
+    pub threads: usize,
+    pub protos: usize,
+    pub stack: usize,
+    pub opens: usize,
+    pub frames: usize,
+}
+
+// A working list: the place of its count, and its items, ITEM_WORDS words each.
+pub struct List {
+    pub count: usize,
+    pub base: usize,
+    pub room: usize,
+}
+
+// A part of the main record past the boundary.
+pub struct Part {
+    pub base: usize,
+    pub room: usize,
+}
+
+// Where everything lies. Marking writes below the boundary only; traversal reads past it.
+pub struct Lay {
+    pub strings: Arena,
+    pub tables: Arena,
+    pub functions: Arena,
+    pub upvalues: Arena,
+    pub userdata: Arena,
+    pub threads: Arena,
+    pub gray: List,
+    pub grayagain: List,
+    pub weak: List,
+    pub queue: List,
+    pub protos: Part,
+    pub stack: Part,
+    pub opens: Part,
+    pub frames: Part,
+    pub boundary: usize,
+    pub words: usize,
+    pub bytes: usize,
+}
+
+// The layout, or the number of a refusal.
+pub enum Opened {
+    Fits(Lay),
+    Refused(u32),
+}
+
+// Words and bytes, or the number of a refusal.
+pub enum Needs {
+    Room(usize, usize),
+    Refused(u32),
+}
+
+// Whether each size lies within its range.
+pub fn sizes_fit(s: Sizes) -> bool
+    ensures { λ r. ⌜ r ≡ sizesFit s ⌝ }
+{
+    (2 <= s.strings)
+        & (s.strings <= 4096)
+        & (2 <= s.tables)
+        & (s.tables <= 4096)
+        & (s.functions <= 4096)
+        & (s.upvalues <= 4096)
+        & (s.userdata <= 4096)
+        & (s.threads <= 4096)
+        & (s.protos <= 256)
+        & (s.stack <= 256)
+        & (s.opens <= 64)
+        & (1 <= s.frames)
+        & (s.frames <= 32)
+}
+
+// The layout of a heap of these sizes, or 4 where one lies outside its range.
+pub fn plan(s: Sizes) -> Opened
+    ensures { λ r. ⌜ (r ≡ planned s) × Plans r ⌝ }
+{
+    if !sizes_fit(s) {
+        return Opened::Refused(4);
+    }
+    Opened::Fits(places::lay_of(s))
+}
+
+// The words and bytes that a heap of these sizes needs, or 4 where one lies outside its range.
+pub fn needed(s: Sizes) -> Needs
+    ensures { λ r. ⌜ r ≡ neededOf s ⌝ }
+{
+    match plan(s) {
+        Opened::Fits(l) => Needs::Room(l.words, l.bytes),
+        Opened::Refused(n) => Needs::Refused(n),
+    }
+}
+
+// What every call begins with: test 1, then the damage mark, else the layout. It reads the header alone and the two
+// lengths, so its cost does not grow with the slots.
+pub fn enter(w: &[u32], b: &[u8]) -> Opened
+    ensures { λ r. ⌜ (r ≡ opened (now (w .entry)) (length (now (b .entry)))) × Gives r (length (now (w .entry))) (length (now (b .entry))) ⌝ }
+{
+    if w.len() < HEADER {
+        return Opened::Refused(1);
+    }
+    let s = test1::sizes_at(w);
+    if !sizes_fit(s) {
+        return Opened::Refused(1);
+    }
+    if !test1::counts_fit(w, s) {
+        return Opened::Refused(1);
+    }
+    let l = places::lay_of(s);
+    if w.len() < l.words {
+        return Opened::Refused(1);
+    }
+    if b.len() < l.bytes {
+        return Opened::Refused(1);
+    }
+    if w[DAMAGE] != 0 {
+        return Opened::Refused(8);
+    }
+    Opened::Fits(l)
+}
