@@ -25,19 +25,20 @@ pub fn put(w: &mut [u32], p: usize, x: u32)
     w[p] = x;
 }
 
-fn joined(low: u32, high: u32) -> u64
+// The two words of a number of 64 bits.
+pub fn joined(low: u32, high: u32) -> u64
     ensures { λ r. ⌜ r ≡ join low high ⌝ }
 {
     (low as u64) + (high as u64) * 4294967296
 }
 
-fn low_half(x: u64) -> u32
+pub fn low_half(x: u64) -> u32
     ensures { λ r. ⌜ r ≡ x % 4294967296 ⌝ }
 {
     (x % 4294967296) as u32
 }
 
-fn high_half(x: u64) -> u32
+pub fn high_half(x: u64) -> u32
     ensures { λ r. ⌜ r ≡ x / 4294967296 ⌝ }
 {
     (x / 4294967296) as u32

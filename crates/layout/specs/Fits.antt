@@ -1,5 +1,6 @@
 -- What a layout gives that fits n words and m bytes: all that a call may use of it. Assumes nothing.
-use mathlib.Core.Path.{_≡_, refl}
+use mathlib.Core.Path.{_≡_, refl, sym, ap}
+use mathlib.Core.Bool.{Bool, true, false, cond, true≢false}
 use mathlib.Core.List.{List as Numbers}
 use Prim.Native.Nat.{ℕ, _+_, _*_, _≤_}
 use native.Mathlib.Omega.{arith}
@@ -7,8 +8,8 @@ use lib.ListN.{length}
 use Rattle.arena.specs.declared.Arena.{Arena}
 use Rattle.arena.specs.Slots.{Room, Wide}
 use Rattle.layout.specs.Places.{GRAY, GRAYAGAIN, WEAK, QUEUE, STRINGS, TABLES, FUNCTIONS, UPVALUES, USERDATA, THREADS, HEADER, STRING-WORDS, TABLE-WORDS, FUNCTION-WORDS, UPVALUE-WORDS, USERDATA-WORDS, THREAD-WORDS, PROTO-WORDS, ITEM-WORDS, VALUE-WORDS, HANDLE-WORDS, STRING-BYTES}
-use Rattle.layout.specs.Sizes.{SizesOk}
-use Rattle.layout.specs.Layout.{layOf}
+use Rattle.layout.specs.Sizes.{SizesOk, sizesFit}
+use Rattle.layout.specs.Layout.{layOf, planned}
 use Rattle.layout.specs.declared.Sizes.{Sizes}
 use Rattle.layout.specs.declared.List.{List}
 use Rattle.layout.specs.declared.Part.{Part}
@@ -111,3 +112,28 @@ Gives (Refused k) n m = Unit {0}
 abbrev pub Plans : Opened → Type 0
 Plans (Fits l) = Ok l (l .words) (l .bytes)
 Plans (Refused k) = Unit {0}
+
+-- a layout is planned exactly for sizes within their ranges, and it is theirs
+abbrev layIn : Lay → Opened → Lay
+layIn l (Fits k) = k
+layIn l (Refused n) = l
+
+abbrev isFits : Opened → Bool
+isFits (Fits l) = true
+isFits (Refused n) = false
+
+pub planned-fits : (s : Sizes) (l : Lay) → Fits l ≡ planned s → (sizesFit s ≡ true) × (l ≡ layOf s)
+unfolding planned
+planned-fits s l p = cases (sizesFit s) p
+  where
+    cases : (b : Bool) → Fits l ≡ cond b (Fits (layOf s)) (Refused 4) → (b ≡ true) × (l ≡ layOf s)
+    cases true p = (refl, ap (layIn l) p)
+    cases false p = absurd (true≢false (ap isFits p))
+
+pub planned-refused : (s : Sizes) (n : ℕ) → Refused n ≡ planned s → sizesFit s ≡ false
+unfolding planned
+planned-refused s n p = cases (sizesFit s) p
+  where
+    cases : (b : Bool) → Refused n ≡ cond b (Fits (layOf s)) (Refused 4) → b ≡ false
+    cases true p = absurd (true≢false (sym (ap isFits p)))
+    cases false p = refl

@@ -2,8 +2,7 @@
 -- the top down. Low to high: the header; for each arena colours, generations, links and extents, a word for each slot in
 -- each; the four lists; then, past the one boundary, all that traversal reads: prototypes, main stack, main open list,
 -- frames, the bodies of the six arenas. Assumes nothing.
-use mathlib.Core.Path.{_≡_}
-use mathlib.Core.Bool.{Bool, cond}
+use mathlib.Core.Bool.{cond}
 use Prim.Native.Nat.{ℕ, _+_, _*_}
 use Rattle.arena.specs.declared.Arena.{Arena}
 use Rattle.layout.specs.Places.{GRAY, GRAYAGAIN, WEAK, QUEUE, STRINGS, TABLES, FUNCTIONS, UPVALUES, USERDATA, THREADS, HEADER, STRING-WORDS, TABLE-WORDS, FUNCTION-WORDS, UPVALUE-WORDS, USERDATA-WORDS, THREAD-WORDS, PROTO-WORDS, ITEM-WORDS, VALUE-WORDS, HANDLE-WORDS, STRING-BYTES}

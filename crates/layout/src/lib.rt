@@ -1,16 +1,13 @@
-// Where everything lies in the two lent buffers (document 01, 'Sizes'), and what every call asks of them first.
+// Where everything lies in the two lent buffers (document 01, 'Sizes').
 use arena::Arena;
 
 mod places;
-mod test1;
 
 ghost use mathlib.Core.Path.{_≡_};
 ghost use Prim.Native.Nat.{ℕ};
-ghost use lib.ListN.{length};
 ghost use Rattle.layout.specs.Sizes.{sizesFit};
 ghost use Rattle.layout.specs.Layout.{planned, neededOf};
-ghost use Rattle.layout.specs.Fits.{Gives, Plans};
-ghost use Rattle.layout.specs.Test1.{opened};
+ghost use Rattle.layout.specs.Fits.{Plans};
 
 // The places of the header (specs/Places.antt says what stands there).
 pub const PROTOTYPES: usize = 10;
@@ -211,32 +208,4 @@ pub fn needed(s: Sizes) -> Needs
         Opened::Fits(l) => Needs::Room(l.words, l.bytes),
         Opened::Refused(n) => Needs::Refused(n),
     }
-}
-
-// What every call begins with: test 1, then the damage mark, else the layout. It reads the header alone and the two
-// lengths, so its cost does not grow with the slots.
-pub fn enter(w: &[u32], b: &[u8]) -> Opened
-    ensures { λ r. ⌜ (r ≡ opened (now (w .entry)) (length (now (b .entry)))) × Gives r (length (now (w .entry))) (length (now (b .entry))) ⌝ }
-{
-    if w.len() < HEADER {
-        return Opened::Refused(1);
-    }
-    let s = test1::sizes_at(w);
-    if !sizes_fit(s) {
-        return Opened::Refused(1);
-    }
-    if !test1::counts_fit(w, s) {
-        return Opened::Refused(1);
-    }
-    let l = places::lay_of(s);
-    if w.len() < l.words {
-        return Opened::Refused(1);
-    }
-    if b.len() < l.bytes {
-        return Opened::Refused(1);
-    }
-    if w[DAMAGE] != 0 {
-        return Opened::Refused(8);
-    }
-    Opened::Fits(l)
 }

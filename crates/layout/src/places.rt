@@ -21,21 +21,21 @@ ghost use Rattle.layout.specs.Sizes.{SizesOk};
 ghost use Rattle.layout.specs.Layout.{grayRoom, grayagainRoom, weakRoom, tablesAt, functionsAt, upvaluesAt, userdataAt, threadsAt, grayAt, grayagainAt, weakAt, queueAt, boundaryOf, stackAt, opensAt, framesAt, stringBodiesAt, tableBodiesAt, functionBodiesAt, upvalueBodiesAt, userdataBodiesAt, threadBodiesAt, wordsOf, bytesOf, stringsOf, tablesOf, functionsOf, upvaluesOf, userdataOf, threadsOf, grayOf, grayagainOf, weakOf, queueOf, protosOf, stackOf, opensOf, framesOf, layOf};
 
 // The room of the working lists.
-pub fn gray_room(s: Sizes) -> usize
+fn gray_room(s: Sizes) -> usize
     requires { ⌜ SizesOk s ⌝ }
     ensures { λ r. ⌜ r ≡ grayRoom s ⌝ }
 {
     s.tables + s.functions + s.threads + 1
 }
 
-pub fn grayagain_room(s: Sizes) -> usize
+fn grayagain_room(s: Sizes) -> usize
     requires { ⌜ SizesOk s ⌝ }
     ensures { λ r. ⌜ r ≡ grayagainRoom s ⌝ }
 {
     s.tables + 2 * s.threads + 1
 }
 
-pub fn weak_room(s: Sizes) -> usize
+fn weak_room(s: Sizes) -> usize
     requires { ⌜ SizesOk s ⌝ }
     ensures { λ r. ⌜ r ≡ weakRoom s ⌝ }
 {

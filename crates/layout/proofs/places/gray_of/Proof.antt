@@ -1,4 +1,4 @@
--- `layout::places::gray_of` meets its contract: the callees' equations joined. Assumes nothing.
+-- `layout::places::gray_of` meets its contract: from what its callees promise. Assumes nothing.
 use borrow.Author.Needs.{needs}
 use Rattle.layout.proofs.places.gray_of.Statement.{statement}
 use Rattle.layout.proofs.places.gray_of.Tie as tie
@@ -10,7 +10,7 @@ gray-room-requires : tie.Need-gray-room-requires
 gray-room-requires c κs = search needs
 
 returns : tie.Need-returns
-returns c = cc
+returns c = rw (c .before .gray-at .ensures, c .gray-room .ensures)
 
 pub gray-of-spec : {M : Type 1} → statement M
 gray-of-spec = tie.close (tie.spec gray-at-requires gray-room-requires returns)

@@ -1,4 +1,4 @@
--- `layout::places::opens_of` meets its contract: the callees' equations joined. Assumes nothing.
+-- `layout::places::opens_of` meets its contract: from what its callees promise. Assumes nothing.
 use borrow.Author.Needs.{needs}
 use Rattle.layout.proofs.places.opens_of.Statement.{statement}
 use Rattle.layout.proofs.places.opens_of.Tie as tie
@@ -7,7 +7,7 @@ opens-at-requires : tie.Need-opens-at-requires
 opens-at-requires c κs = search needs
 
 returns : tie.Need-returns
-returns c = cc
+returns c = rw (c .opens-at .ensures)
 
 pub opens-of-spec : {M : Type 1} → statement M
 opens-of-spec = tie.close (tie.spec opens-at-requires returns)

@@ -1,4 +1,4 @@
--- `layout::places::queue_of` meets its contract: the callees' equations joined. Assumes nothing.
+-- `layout::places::queue_of` meets its contract: from what its callees promise. Assumes nothing.
 use borrow.Author.Needs.{needs}
 use Rattle.layout.proofs.places.queue_of.Statement.{statement}
 use Rattle.layout.proofs.places.queue_of.Tie as tie
@@ -7,7 +7,7 @@ queue-at-requires : tie.Need-queue-at-requires
 queue-at-requires c κs = search needs
 
 returns : tie.Need-returns
-returns c = cc
+returns c = rw (c .queue-at .ensures)
 
 pub queue-of-spec : {M : Type 1} → statement M
 queue-of-spec = tie.close (tie.spec queue-at-requires returns)

@@ -1,4 +1,4 @@
--- `layout::places::tables_of` meets its contract: the callees' equations joined. Assumes nothing.
+-- `layout::places::tables_of` meets its contract: from what its callees promise. Assumes nothing.
 use borrow.Author.Needs.{needs}
 use Rattle.layout.proofs.places.tables_of.Statement.{statement}
 use Rattle.layout.proofs.places.tables_of.Tie as tie
@@ -10,7 +10,7 @@ tables-at-requires : tie.Need-tables-at-requires
 tables-at-requires c κs = search needs
 
 returns : tie.Need-returns
-returns c = cc
+returns c = rw (c .before .table-bodies-at .ensures, c .tables-at .ensures)
 
 pub tables-of-spec : {M : Type 1} → statement M
 tables-of-spec = tie.close (tie.spec table-bodies-at-requires tables-at-requires returns)

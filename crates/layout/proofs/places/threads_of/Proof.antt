@@ -1,4 +1,4 @@
--- `layout::places::threads_of` meets its contract: the callees' equations joined. Assumes nothing.
+-- `layout::places::threads_of` meets its contract: from what its callees promise. Assumes nothing.
 use borrow.Author.Needs.{needs}
 use Rattle.layout.proofs.places.threads_of.Statement.{statement}
 use Rattle.layout.proofs.places.threads_of.Tie as tie
@@ -10,7 +10,7 @@ threads-at-requires : tie.Need-threads-at-requires
 threads-at-requires c κs = search needs
 
 returns : tie.Need-returns
-returns c = cc
+returns c = rw (c .before .thread-bodies-at .ensures, c .threads-at .ensures)
 
 pub threads-of-spec : {M : Type 1} → statement M
 threads-of-spec = tie.close (tie.spec thread-bodies-at-requires threads-at-requires returns)

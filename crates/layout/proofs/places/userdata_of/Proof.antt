@@ -1,4 +1,4 @@
--- `layout::places::userdata_of` meets its contract: the callees' equations joined. Assumes nothing.
+-- `layout::places::userdata_of` meets its contract: from what its callees promise. Assumes nothing.
 use borrow.Author.Needs.{needs}
 use Rattle.layout.proofs.places.userdata_of.Statement.{statement}
 use Rattle.layout.proofs.places.userdata_of.Tie as tie
@@ -10,7 +10,7 @@ userdata-at-requires : tie.Need-userdata-at-requires
 userdata-at-requires c κs = search needs
 
 returns : tie.Need-returns
-returns c = cc
+returns c = rw (c .before .userdata-bodies-at .ensures, c .userdata-at .ensures)
 
 pub userdata-of-spec : {M : Type 1} → statement M
 userdata-of-spec = tie.close (tie.spec userdata-bodies-at-requires userdata-at-requires returns)

@@ -1,4 +1,4 @@
--- `layout::places::weak_of` meets its contract: the callees' equations joined. Assumes nothing.
+-- `layout::places::weak_of` meets its contract: from what its callees promise. Assumes nothing.
 use borrow.Author.Needs.{needs}
 use Rattle.layout.proofs.places.weak_of.Statement.{statement}
 use Rattle.layout.proofs.places.weak_of.Tie as tie
@@ -10,7 +10,7 @@ weak-room-requires : tie.Need-weak-room-requires
 weak-room-requires c κs = search needs
 
 returns : tie.Need-returns
-returns c = cc
+returns c = rw (c .before .weak-at .ensures, c .weak-room .ensures)
 
 pub weak-of-spec : {M : Type 1} → statement M
 weak-of-spec = tie.close (tie.spec weak-at-requires weak-room-requires returns)

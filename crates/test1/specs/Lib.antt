@@ -1,0 +1,3 @@
+pub mod Test1
+pub mod Calls
+pub mod Rows
