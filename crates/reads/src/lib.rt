@@ -1,9 +1,15 @@
 // Public reads of the header and what stands below the boundary: counters, roots, the main record, the working lists, and
 // the slots of each arena. Each gives 1 and 8 first, then 4, and changes nothing.
 use arena::Arena;
-use layout::{Lay, List, Opened, Part};
+use layout::Lay;
+use layout::List;
+use layout::Opened;
+use layout::Part;
 use lists::Item;
-use value::{StrOr, TableOr, UpvalRef, Value};
+use value::StrOr;
+use value::TableOr;
+use value::UpvalRef;
+use value::Value;
 ghost use mathlib.Core.Path.{_≡_};
 ghost use Prim.Native.Nat.{ℕ, _+_, _*_, _≤_, _<_};
 ghost use lib.ListN.{length};
