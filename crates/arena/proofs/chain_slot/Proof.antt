@@ -21,7 +21,7 @@ same-length c = search needs
 
 returns : tie.Need-returns
 unfolding chained
-returns c = cc
+returns c = rw (← c .before .before .before .before .before .before .before .before .before .before .before .before .before .before .age-slot .ensures, ← c .before .before .before .before .before .before .before .before .before .before .set-colour .ensures, ← c .before .before .before .before .before .before .push-slot .ensures) (c .before .before .count-less .ensures)
 
 pub chain-slot-spec : {M : Type 1} → statement M
 chain-slot-spec =

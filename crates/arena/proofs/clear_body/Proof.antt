@@ -21,7 +21,7 @@ same-length : tie.Need-same-length
 same-length c = search needs
 
 returns : tie.Need-returns
-returns c = cc
+returns c = rw (← c .before .before .before .before .before .before .extent-of .ensures .0) (c .before .before .clear-words .ensures)
 
 pub clear-body-spec : {M : Type 1} → statement M
 clear-body-spec =

@@ -16,7 +16,7 @@ same-length : tie.Need-same-length
 same-length c = search needs
 
 returns : tie.Need-returns
-returns c = cc
+returns c = rw (← c .before .before .before .before .before .count-of .ensures, ← c .before .before .before .count-up .ensures) (c .before .before .set-count .ensures)
 
 pub count-more-spec : {M : Type 1} → statement M
 count-more-spec =

@@ -21,7 +21,7 @@ same-length-2 c = search needs
 
 returns : tie.Need-returns
 unfolding emptied
-returns c = cc
+returns c = rw (← c .before .before .before .before .before .before .before .before .before .before .clear-body .ensures, ← c .before .before .before .before .before .before .set-extent .ensures, ← c .before .before .clear-text .ensures)
 
 pub empty-slot-spec : {M : Type 1} → statement M
 empty-slot-spec =

@@ -16,7 +16,7 @@ same-length : tie.Need-same-length
 same-length c = search needs
 
 returns : tie.Need-returns
-returns c = cc
+returns c = rw (← c .before .before .before .before .before .before .before .before .before .before .set-colour .ensures, ← c .before .before .before .before .before .before .set-extent .ensures) (c .before .before .count-more .ensures)
 
 pub fill-slot-spec : {M : Type 1} → statement M
 fill-slot-spec =

@@ -24,7 +24,7 @@ same-length-2 c = search needs
 
 returns : tie.Need-returns
 unfolding freed
-returns c = rw (← c .before .before .before .before .before .before .before .before .before .before .name-of .ensures .0, c .before .before .before .before .before .before .before .before .i .given .1) (cc)
+returns c = rw (← c .before .before .before .before .before .before .before .before .before .before .name-of .ensures .0, c .before .before .before .before .before .before .before .before .i .given .1, ← c .before .before .before .before .free-slot .ensures)
 
 same-length-3 : tie.Need-same-length-3
 same-length-3 c = search needs

@@ -18,7 +18,7 @@ same-length-2 c = search needs
 
 returns : tie.Need-returns
 unfolding freeSlot
-returns c = rw (← c .before .before .before .before .before .before .before .before .empty-slot .ensures) (cc)
+returns c = rw (← c .before .before .before .before .before .before .before .before .empty-slot .ensures, ← c .before .before .chain-slot .ensures)
 
 pub free-slot-spec : {M : Type 1} → statement M
 free-slot-spec =

@@ -24,7 +24,7 @@ same-length c = search needs
 
 returns : tie.Need-returns
 unfolding opened
-returns c = cc
+returns c = rw (← c .before .before .before .before .before .before .before .before .before .before .set-fresh .ensures, ← c .before .before .before .before .before .before .set-generation .ensures) (c .before .before .fill-slot .ensures)
 
 pub open-slot-spec : {M : Type 1} → statement M
 open-slot-spec =

@@ -21,7 +21,7 @@ same-length c = search needs
 
 returns : tie.Need-returns
 unfolding popped
-returns c = cc
+returns c = rw (← c .before .before .before .before .before .before .before .before .before .before .before .before .link-of .ensures, ← c .before .before .before .before .before .before .before .before .before .before .set-head .ensures, ← c .before .before .before .before .before .before .set-link .ensures) (c .before .before .fill-slot .ensures)
 
 pub pop-slot-spec : {M : Type 1} → statement M
 pop-slot-spec =

@@ -14,7 +14,7 @@ same-length c = search needs
 
 returns : tie.Need-returns
 unfolding takeFresh
-returns c = (le-yes _ _ _ _ _ (omega arith) (cc), c .no-room .ensures .1)
+returns c = (le-yes _ _ _ _ _ (omega arith) (rw (c .no-room .ensures .0)), c .no-room .ensures .1)
 
 colour-of-requires : tie.Need-colour-of-requires
 colour-of-requires c κs = search needs
@@ -27,7 +27,7 @@ same-length-2 c = search needs
 
 returns-2 : tie.Need-returns-2
 unfolding takeFresh
-returns-2 c = (le-no _ _ _ _ _ (omega arith) (lt-yes _ _ _ _ _ (omega arith) (cc)), c .no-room2 .ensures .1)
+returns-2 c = (le-no _ _ _ _ _ (omega arith) (lt-yes _ _ _ _ _ (omega arith) (rw (c .no-room2 .ensures .0))), c .no-room2 .ensures .1)
 
 open-slot-requires : tie.Need-open-slot-requires
 open-slot-requires c κs = search needs
@@ -37,7 +37,7 @@ same-length-3 c = search needs
 
 returns-3 : tie.Need-returns-3
 unfolding takeFresh
-returns-3 c = (le-no _ _ _ _ _ (omega arith) (lt-no _ _ _ _ _ (omega arith) (cc)), omega arith)
+returns-3 c = (le-no _ _ _ _ _ (omega arith) (lt-no _ _ _ _ _ (omega arith) (rw (c .before .before .open-slot .ensures))), omega arith)
 
 pub take-fresh-spec : {M : Type 1} → statement M
 take-fresh-spec =

@@ -17,7 +17,7 @@ same-length c = search needs
 
 returns : tie.Need-returns
 unfolding takeHead
-returns c = (le-yes _ _ _ _ _ (omega arith) (cc), c .no-room .ensures .1)
+returns c = (le-yes _ _ _ _ _ (omega arith) (rw (c .no-room .ensures .0)), c .no-room .ensures .1)
 
 colour-of-requires : tie.Need-colour-of-requires
 colour-of-requires c κs = search needs
@@ -30,7 +30,7 @@ same-length-2 c = search needs
 
 returns-2 : tie.Need-returns-2
 unfolding takeHead
-returns-2 c = (le-no _ _ _ _ _ (omega arith) (lt-yes _ _ _ _ _ (omega arith) (cc)), c .no-room2 .ensures .1)
+returns-2 c = (le-no _ _ _ _ _ (omega arith) (lt-yes _ _ _ _ _ (omega arith) (rw (c .no-room2 .ensures .0))), c .no-room2 .ensures .1)
 
 generation-of-requires : tie.Need-generation-of-requires
 generation-of-requires c κs = search needs
@@ -43,7 +43,7 @@ same-length-3 c = search needs
 
 returns-3 : tie.Need-returns-3
 unfolding takeHead
-returns-3 c = (le-no _ _ _ _ _ (omega arith) (lt-no _ _ _ _ _ (omega arith) (cc)), omega arith)
+returns-3 c = (le-no _ _ _ _ _ (omega arith) (lt-no _ _ _ _ _ (omega arith) (rw (c .before .before .before .before .generation-of .ensures, c .before .before .pop-slot .ensures))), omega arith)
 
 pub take-head-spec : {M : Type 1} → statement M
 take-head-spec =

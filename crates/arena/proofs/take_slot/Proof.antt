@@ -23,7 +23,7 @@ same-length c = search needs
 
 returns : tie.Need-returns
 unfolding takeSlot
-returns c = (lt-yes _ _ _ _ _ (omega arith) (cc), c .before .before .take-head .ensures .1)
+returns c = (lt-yes _ _ _ _ _ (omega arith) (rw (← c .before .before .before .before .before .before .head-of .ensures, ← c .before .before .before .wide .ensures .0) (c .before .before .take-head .ensures .0)), c .before .before .take-head .ensures .1)
 
 fresh-of-requires : tie.Need-fresh-of-requires
 fresh-of-requires c κs = search needs
@@ -36,7 +36,7 @@ same-length-2 c = search needs
 
 returns-2 : tie.Need-returns-2
 unfolding takeSlot
-returns-2 c = (lt-no _ _ _ _ _ (omega arith) (cc), c .before .before .take-fresh .ensures .1)
+returns-2 c = (lt-no _ _ _ _ _ (omega arith) (rw (← c .before .before .before .before .fresh-of .ensures) (c .before .before .take-fresh .ensures .0)), c .before .before .take-fresh .ensures .1)
 
 pub take-slot-spec : {M : Type 1} → statement M
 take-slot-spec =

@@ -1,5 +1,6 @@
 -- `arena::visit_slot` meets its contract: each way by its test. Assumes nothing.
 use borrow.Author.Needs.{needs}
+use mathlib.Core.Path.{refl}
 use native.Mathlib.Omega.{arith}
 use Rattle.arena.specs.Slots.{visit}
 use Rattle.base.specs.Ways.{eq-yes, eq-no}
@@ -14,7 +15,7 @@ same-length c = search needs
 
 returns : tie.Need-returns
 unfolding visit
-returns c = (eq-yes _ _ _ _ _ (omega arith) (cc), omega arith)
+returns c = (eq-yes _ _ _ _ _ (omega arith) refl, omega arith)
 
 free-slot-requires : tie.Need-free-slot-requires
 free-slot-requires c κs = search needs
@@ -33,7 +34,7 @@ same-length-3 c = search needs
 
 returns-2 : tie.Need-returns-2
 unfolding visit
-returns-2 c = (eq-no _ _ _ _ _ (λ e. omega arith) (eq-yes _ _ _ _ _ (omega arith) (cc)), omega arith)
+returns-2 c = (eq-no _ _ _ _ _ (λ e. omega arith) (eq-yes _ _ _ _ _ (omega arith) (rw (← c .before .before .before .before .before .before .free-slot .ensures))), omega arith)
 
 set-colour-requires : tie.Need-set-colour-requires
 set-colour-requires c κs = search needs
@@ -46,7 +47,7 @@ same-length-4 c = search needs
 
 returns-3 : tie.Need-returns-3
 unfolding visit
-returns-3 c = (eq-no _ _ _ _ _ (λ e. omega arith) (eq-no _ _ _ _ _ (λ e. omega arith) (cc)), omega arith)
+returns-3 c = (eq-no _ _ _ _ _ (λ e. omega arith) (eq-no _ _ _ _ _ (λ e. omega arith) (rw (← c .before .before .before .set-colour .ensures))), omega arith)
 
 pub visit-slot-spec : {M : Type 1} → statement M
 visit-slot-spec =
