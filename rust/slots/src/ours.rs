@@ -91,6 +91,26 @@ fn answered(code: u32) -> Result<(), Refused> {
     }
 }
 
+/// Calls an exported function on the arena's buffers and place, with these arguments after them.
+macro_rules! exported {
+    ($ours:ident, $name:ident, $($argument:expr),*) => {
+        // SAFETY: each pointer is that of a live slice, with its length; the function has no
+        // requirement and writes only within the lengths given.
+        unsafe {
+            exported::$name(
+                $ours.words.as_mut_ptr(),
+                $ours.words.len(),
+                $ours.bytes.as_mut_ptr(),
+                $ours.bytes.len(),
+                $ours.slots,
+                STRIDE,
+                WIDTH,
+                $($argument),*
+            )
+        }
+    };
+}
+
 impl Ours {
     /// Zeroed words are an empty arena.
     pub fn new(slots: usize) -> Self {
@@ -102,62 +122,24 @@ impl Ours {
     }
 
     pub fn take(&mut self, colour: u32) -> Result<(u32, u32), Refused> {
-        let mut out = [0; 3];
-        // SAFETY: each pointer is that of a live slice, with its length; the function has no
-        // requirement and writes only within the lengths given.
-        let code = unsafe {
-            exported::sieddesan_arena_take(
-                self.words.as_mut_ptr(),
-                self.words.len(),
-                self.bytes.as_ptr(),
-                self.bytes.len(),
-                self.slots,
-                STRIDE,
-                WIDTH,
-                colour,
-                STRIDE as u32,
-                out.as_mut_ptr(),
-                out.len(),
-            )
-        };
+        let (mut out, size) = ([0; 3], STRIDE as u32);
+        let (place, length) = (out.as_mut_ptr(), out.len());
+        let code = exported!(self, sieddesan_arena_take, colour, size, place, length);
         answered(code).map(|()| (out[0], out[1]))
     }
 
     pub fn free(&mut self, index: u32, generation: u32) -> Result<(), Refused> {
-        // SAFETY: as in `take`.
-        let code = unsafe {
-            exported::sieddesan_arena_free(
-                self.words.as_mut_ptr(),
-                self.words.len(),
-                self.bytes.as_mut_ptr(),
-                self.bytes.len(),
-                self.slots,
-                STRIDE,
-                WIDTH,
-                index,
-                generation,
-            )
-        };
-        answered(code)
+        answered(exported!(self, sieddesan_arena_free, index, generation))
     }
 
     pub fn paint(&mut self, index: u32, generation: u32, colour: u32) -> Result<(), Refused> {
-        // SAFETY: as in `take`.
-        let code = unsafe {
-            exported::sieddesan_arena_paint(
-                self.words.as_mut_ptr(),
-                self.words.len(),
-                self.bytes.as_ptr(),
-                self.bytes.len(),
-                self.slots,
-                STRIDE,
-                WIDTH,
-                index,
-                generation,
-                colour,
-            )
-        };
-        answered(code)
+        answered(exported!(
+            self,
+            sieddesan_arena_paint,
+            index,
+            generation,
+            colour
+        ))
     }
 
     pub fn sweep(
@@ -168,24 +150,17 @@ impl Ours {
         most: u32,
     ) -> Result<Swept, Refused> {
         let mut out = [0; 3];
-        // SAFETY: as in `take`.
-        let code = unsafe {
-            exported::sieddesan_arena_sweep(
-                self.words.as_mut_ptr(),
-                self.words.len(),
-                self.bytes.as_mut_ptr(),
-                self.bytes.len(),
-                self.slots,
-                STRIDE,
-                WIDTH,
-                dead,
-                white,
-                start,
-                most,
-                out.as_mut_ptr(),
-                out.len(),
-            )
-        };
+        let (place, length) = (out.as_mut_ptr(), out.len());
+        let code = exported!(
+            self,
+            sieddesan_arena_sweep,
+            dead,
+            white,
+            start,
+            most,
+            place,
+            length
+        );
         answered(code).map(|()| Swept {
             freed: out[0],
             next: out[1],
