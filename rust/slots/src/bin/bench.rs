@@ -6,31 +6,7 @@
 use oracle::slots::Slots;
 use slots::Ours;
 use std::hint::black_box;
-use std::time::Instant;
-
-/// Nanoseconds of one round: the work is done often enough to be far above the clock's grain.
-fn timed(repeats: u32, mut work: impl FnMut()) -> f64 {
-    let start = Instant::now();
-    for _ in 0..repeats {
-        work();
-    }
-    start.elapsed().as_nanos() as f64 / f64::from(repeats)
-}
-
-struct Spread {
-    low: f64,
-    median: f64,
-    high: f64,
-}
-
-fn spread(mut times: Vec<f64>) -> Spread {
-    times.sort_by(f64::total_cmp);
-    Spread {
-        low: times[0],
-        median: times[times.len() / 2],
-        high: times[times.len() - 1],
-    }
-}
+use timing::{Spread, timed};
 
 fn full(slots: u32, colour: u32) -> (Ours, Slots) {
     let (mut ours, mut source) = (Ours::new(slots as usize), Slots::new());
@@ -72,17 +48,9 @@ fn row(name: &str, rounds: usize, mut ours: impl FnMut() -> f64, mut source: imp
         a.push(ours());
         b.push(source());
     }
-    let (a, b) = (spread(a), spread(b));
-    println!(
-        "{name:34} ours {:9.1} ns ({:.1} to {:.1})   source {:9.1} ns ({:.1} to {:.1})   ratio {:.2}",
-        a.median,
-        a.low,
-        a.high,
-        b.median,
-        b.low,
-        b.high,
-        a.median / b.median
-    );
+    let (a, b) = (Spread::of(a), Spread::of(b));
+    let ratio = a.median / b.median;
+    println!("{name:34} ours {a}   source {b}   ratio {ratio:.2}");
 }
 
 fn live_sweep(rounds: usize) {
@@ -139,10 +107,7 @@ fn take_and_free(rounds: usize) {
 }
 
 fn main() {
-    let rounds = std::env::args()
-        .nth(1)
-        .and_then(|w| w.parse().ok())
-        .unwrap_or(21);
+    let rounds = timing::rounds();
     live_sweep(rounds);
     dead_sweep(rounds);
     take_and_free(rounds);

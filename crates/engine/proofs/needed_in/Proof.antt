@@ -1,0 +1,57 @@
+-- `engine::needed_in` meets its contract: each way by its test. Assumes nothing.
+use borrow.Author.Needs.{needs}
+use mathlib.Core.Path.{refl, sym, _∙_}
+use native.Mathlib.Omega.{arith}
+use Rattle.base.specs.Ways.{lt-yes, lt-no}
+use Rattle.engine.specs.Engine.{neededIn, planned-small}
+use Rattle.layout.specs.Layout.{neededOf}
+use Rattle.engine.proofs.needed_in.Statement.{statement}
+use Rattle.engine.proofs.needed_in.Tie as tie
+
+plan-requires : tie.Need-plan-requires
+plan-requires c κs = search needs
+
+enum-known-l : tie.Need-enum-known-l
+enum-known-l c = search needs
+
+returns : tie.Need-returns
+unfolding neededIn neededOf
+returns c = rw (← c .before .before .before .before .plan .ensures .0, c .before .before .l .given .1) (lt-yes _ _ _ _ _ (omega arith) refl)
+
+cast-tell : tie.Need-cast-tell
+cast-tell c = omega (arith, planned-small _ _ (sym (c .before .before .before .before .l .given .1) ∙ c .before .before .before .before .before .before .plan .ensures .0))
+
+cast-tell-2 : tie.Need-cast-tell-2
+cast-tell-2 c = omega (arith, planned-small _ _ (sym (c .before .before .before .before .before .l .given .1) ∙ c .before .before .before .before .before .before .before .plan .ensures .0))
+
+tell-requires : tie.Need-tell-requires
+tell-requires c κs = search needs
+
+enum-known-n : tie.Need-enum-known-n
+enum-known-n c = search needs
+
+same-length : tie.Need-same-length
+same-length c = search needs
+
+returns-2 : tie.Need-returns-2
+unfolding neededIn neededOf
+returns-2 c = rw (← c .before .before .before .before .before .before .before .before .before .before .plan .ensures .0, c .before .before .before .before .before .before .before .before .l .given .1) (lt-no _ _ _ _ _ (omega arith) (cc))
+
+returns-3 : tie.Need-returns-3
+unfolding neededIn neededOf
+returns-3 c = rw (← c .before .before .before .plan .ensures .0, c .before .n .given .1)
+
+pub needed-in-spec : {M : Type 1} → statement M
+needed-in-spec =
+    tie.close
+    (tie.spec
+    plan-requires
+    enum-known-l
+    returns
+    cast-tell
+    cast-tell-2
+    tell-requires
+    enum-known-n
+    same-length
+    returns-2
+    returns-3)

@@ -1,0 +1,50 @@
+// What the programs that show a heap share: a text, a number between two texts, and the sizes of two heaps.
+use layout::Sizes;
+use libc::STDOUT_FILENO;
+
+pub fn say(text: &[u8]) {
+    io::write_all(STDOUT_FILENO, text);
+}
+
+// A number between two texts: 32 bits, or 64.
+pub fn count(before: &[u8], n: u32, after: &[u8]) {
+    long(before, n as u64, after);
+}
+
+pub fn long(before: &[u8], n: u64, after: &[u8]) {
+    say(before);
+    io::print_decimal(STDOUT_FILENO, n);
+    say(after);
+}
+
+// The smallest heap: two names, two tables, one frame.
+pub fn smallest() -> Sizes {
+    Sizes {
+        strings: 2,
+        tables: 2,
+        functions: 0,
+        upvalues: 0,
+        userdata: 0,
+        threads: 0,
+        protos: 0,
+        stack: 0,
+        opens: 0,
+        frames: 1,
+    }
+}
+
+// heapscript's heap.
+pub fn heapscript() -> Sizes {
+    Sizes {
+        strings: 16,
+        tables: 16,
+        functions: 0,
+        upvalues: 0,
+        userdata: 16,
+        threads: 0,
+        protos: 0,
+        stack: 32,
+        opens: 0,
+        frames: 1,
+    }
+}
