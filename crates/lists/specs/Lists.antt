@@ -7,6 +7,7 @@ use Rattle.base.specs.Ways.{ifLt, ifLe, ifEq}
 use Rattle.base.specs.Words.{at, put, clear}
 use Rattle.value.specs.Values.{put3}
 use Rattle.layout.specs.declared.List.{List}
+use Rattle.layout.specs.Places.{DAMAGE}
 use Rattle.lists.specs.declared.Item.{Item}
 use Rattle.lists.specs.declared.Item.the-variants.{Table, Function, Userdata, Thread, Main, Unknown}
 use Rattle.lists.specs.declared.Popped.{Popped}
@@ -14,7 +15,7 @@ use Rattle.lists.specs.declared.Popped.the-variants.{Nothing, Got}
 
 -- the place of the damage mark
 abbrev pub damage : ℕ
-damage = 52
+damage = DAMAGE
 
 -- The list lies within the words, and so does the damage mark.
 pub record RoomFor (l : List) (w : Words ℕ) : Type 0 where

@@ -1,0 +1,36 @@
+-- `object_reads::read_thread` meets its contract: from what its callees promise. Assumes nothing.
+use borrow.Author.Needs.{needs}
+use native.Mathlib.Omega.{arith}
+use Rattle.layout.specs.Fits.{room}
+use Rattle.test1.specs.Calls.{ask-fits, ask-refused}
+use Rattle.object_reads.proofs.read_thread.Statement.{statement}
+use Rattle.object_reads.proofs.read_thread.Tie as tie
+
+enter-requires : tie.Need-enter-requires
+enter-requires c κs = search needs
+
+enum-known-l : tie.Need-enum-known-l
+enum-known-l c = search needs
+
+thread-on-requires : tie.Need-thread-on-requires
+thread-on-requires c κs = (room _ ((rw (c .before .l .given .1) at (c .before .before .before .enter .ensures .1)) .threads) (omega arith), (rw (c .before .l .given .1) at (c .before .before .before .enter .ensures .1)) .threads .stride)
+
+enum-known-n : tie.Need-enum-known-n
+enum-known-n c = search needs
+
+returns : tie.Need-returns
+returns c = ask-fits _ _ _ _ _ _ (c .before .before .before .before .enter .ensures .0) (c .before .before .l .given .1) (c .thread-on .ensures)
+
+returns-2 : tie.Need-returns-2
+returns-2 c = ask-refused _ _ _ _ _ (c .before .before .before .enter .ensures .0) (c .before .n .given .1)
+
+pub read-thread-spec : {M : Type 1} → statement M
+read-thread-spec =
+    tie.close
+    (tie.spec
+    enter-requires
+    enum-known-l
+    thread-on-requires
+    enum-known-n
+    returns
+    returns-2)

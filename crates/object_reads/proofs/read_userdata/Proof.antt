@@ -1,0 +1,36 @@
+-- `object_reads::read_userdata` meets its contract: from what its callees promise. Assumes nothing.
+use borrow.Author.Needs.{needs}
+use native.Mathlib.Omega.{arith}
+use Rattle.layout.specs.Fits.{room}
+use Rattle.test1.specs.Calls.{ask-fits, ask-refused}
+use Rattle.object_reads.proofs.read_userdata.Statement.{statement}
+use Rattle.object_reads.proofs.read_userdata.Tie as tie
+
+enter-requires : tie.Need-enter-requires
+enter-requires c κs = search needs
+
+enum-known-l : tie.Need-enum-known-l
+enum-known-l c = search needs
+
+userdata-on-requires : tie.Need-userdata-on-requires
+userdata-on-requires c κs = (room _ ((rw (c .before .l .given .1) at (c .before .before .before .enter .ensures .1)) .userdata) (omega arith), (rw (c .before .l .given .1) at (c .before .before .before .enter .ensures .1)) .userdata .stride)
+
+enum-known-n : tie.Need-enum-known-n
+enum-known-n c = search needs
+
+returns : tie.Need-returns
+returns c = ask-fits _ _ _ _ _ _ (c .before .before .before .before .enter .ensures .0) (c .before .before .l .given .1) (c .userdata-on .ensures)
+
+returns-2 : tie.Need-returns-2
+returns-2 c = ask-refused _ _ _ _ _ (c .before .before .before .enter .ensures .0) (c .before .n .given .1)
+
+pub read-userdata-spec : {M : Type 1} → statement M
+read-userdata-spec =
+    tie.close
+    (tie.spec
+    enter-requires
+    enum-known-l
+    userdata-on-requires
+    enum-known-n
+    returns
+    returns-2)
