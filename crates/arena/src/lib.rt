@@ -6,7 +6,7 @@ ghost use mathlib.Core.Path.{_≡_};
 ghost use Prim.Native.Nat.{ℕ, _+_, _*_, _≤_, _<_, max};
 ghost use lib.ListN.{length};
 ghost use Rattle.base.specs.Heap.{heap};
-ghost use Rattle.arena.specs.Slots.{Room, Wide, colour, setColour, gen, setGen, link, setLink, extent, setExtent, head, setHead, fresh, setFresh, count, setCount, used, named, Within, tallied, occupied, clearBody, clearText, emptied, aged, pushed, countLess, countMore, chained, freeSlot, freed, filled, popped, opened, noRoom, takeHead, takeFresh, takeSlot, Taken, visit, sweepPartial};
+ghost use Rattle.arena.specs.Slots.{Room, Wide, colour, setColour, gen, setGen, link, setLink, extent, setExtent, head, setHead, setFresh, count, used, named, Within, tallied, occupied, clearBody, clearText, aged, pushed, countLess, freeSlot, freed, filled, noRoom, takeHead, takeFresh, takeSlot, Taken, visit, sweepPartial};
 
 // Where the parts of one arena lie.
 pub struct Arena {
@@ -86,15 +86,6 @@ pub fn generation_of(w: &[u32], a: Arena, i: usize) -> u32
     w[at]
 }
 
-fn set_generation(w: &mut [u32], a: Arena, i: usize, g: u32)
-    requires { ⌜ Room a (now w) ⌝ }
-    requires { ⌜ i < a .slots ⌝ }
-    ensures { λ _. ⌜ now (w .exit) ≡ setGen a i g (now (w .entry)) ⌝ }
-{
-    let at = a.base + a.slots + i;
-    w[at] = g;
-}
-
 // The slot after slot i in the chain: its index + 1, 0 for none.
 pub fn link_of(w: &[u32], a: Arena, i: usize) -> u32
     requires { ⌜ Room a (now w) ⌝ }
@@ -103,15 +94,6 @@ pub fn link_of(w: &[u32], a: Arena, i: usize) -> u32
 {
     let at = a.base + 2 * a.slots + i;
     w[at]
-}
-
-fn set_link(w: &mut [u32], a: Arena, i: usize, x: u32)
-    requires { ⌜ Room a (now w) ⌝ }
-    requires { ⌜ i < a .slots ⌝ }
-    ensures { λ _. ⌜ now (w .exit) ≡ setLink a i x (now (w .entry)) ⌝ }
-{
-    let at = a.base + 2 * a.slots + i;
-    w[at] = x;
 }
 
 // How many words of slot i's body its record takes. One past the stride reads as 0.
@@ -125,15 +107,6 @@ pub fn extent_of(w: &[u32], a: Arena, i: usize) -> usize
     base::within(base::get(w, at), n)
 }
 
-fn set_extent(w: &mut [u32], a: Arena, i: usize, n: u32)
-    requires { ⌜ Room a (now w) ⌝ }
-    requires { ⌜ i < a .slots ⌝ }
-    ensures { λ _. ⌜ now (w .exit) ≡ setExtent a i n (now (w .entry)) ⌝ }
-{
-    let at = a.base + 3 * a.slots + i;
-    w[at] = n;
-}
-
 // The head of the chain: a slot's index + 1, 0 for none.
 pub fn head_of(w: &[u32], a: Arena) -> u32
     requires { ⌜ Room a (now w) ⌝ }
@@ -141,30 +114,6 @@ pub fn head_of(w: &[u32], a: Arena) -> u32
 {
     let at = a.top;
     w[at]
-}
-
-fn set_head(w: &mut [u32], a: Arena, x: u32)
-    requires { ⌜ Room a (now w) ⌝ }
-    ensures { λ _. ⌜ now (w .exit) ≡ setHead a x (now (w .entry)) ⌝ }
-{
-    let at = a.top;
-    w[at] = x;
-}
-
-fn fresh_of(w: &[u32], a: Arena) -> usize
-    requires { ⌜ Room a (now w) ⌝ }
-    ensures { λ r. ⌜ r ≡ fresh a (now (w .entry)) ⌝ }
-{
-    let at = a.top + 1;
-    wide(w[at])
-}
-
-fn set_fresh(w: &mut [u32], a: Arena, x: u32)
-    requires { ⌜ Room a (now w) ⌝ }
-    ensures { λ _. ⌜ now (w .exit) ≡ setFresh a x (now (w .entry)) ⌝ }
-{
-    let at = a.top + 1;
-    w[at] = x;
 }
 
 // The stored count of occupied slots.
@@ -176,21 +125,14 @@ pub fn count_of(w: &[u32], a: Arena) -> u32
     w[at]
 }
 
-fn set_count(w: &mut [u32], a: Arena, x: u32)
-    requires { ⌜ Room a (now w) ⌝ }
-    ensures { λ _. ⌜ now (w .exit) ≡ setCount a x (now (w .entry)) ⌝ }
-{
-    let at = a.top + 2;
-    w[at] = x;
-}
-
 // The end of the slots: the fresh index. No index from there on names a slot.
 pub fn used_of(w: &[u32], a: Arena) -> usize
     requires { ⌜ Room a (now w) ⌝ }
     ensures { λ r. ⌜ (r ≡ used a (now (w .entry))) × (r ≤ a .slots) ⌝ }
 {
-    let f = fresh_of(w, a);
+    let at = a.top + 1;
     let n = a.slots;
+    let f = wide(w[at]);
     if f < n {
         return f;
     }
@@ -242,7 +184,7 @@ pub fn occupied_of(w: &[u32], a: Arena) -> usize
     n
 }
 
-// The record of slot i is made 0.
+// The record of slot i, as sized, is made 0.
 fn clear_body(w: &mut [u32], a: Arena, i: usize)
     requires { ⌜ Room a (now w) ⌝ }
     requires { ⌜ i < a .slots ⌝ }
@@ -264,65 +206,32 @@ fn clear_text(b: &mut [u8], a: Arena, i: usize)
     base::clear_bytes(b, text, n);
 }
 
-// The body of slot i is zeroed: its record as sized, and its bytes.
-fn empty_slot(w: &mut [u32], b: &mut [u8], a: Arena, i: usize)
-    requires { ⌜ Room a (now w) ⌝ }
-    requires { ⌜ Wide a (now b) ⌝ }
-    requires { ⌜ i < a .slots ⌝ }
-    ensures { λ _. ⌜ heap (now (w .exit)) (now (b .exit)) ≡ emptied a i (heap (now (w .entry)) (now (b .entry))) ⌝ }
-{
-    clear_body(w, a, i);
-    set_extent(w, a, i, 0);
-    clear_text(b, a, i);
-}
-
-// The generation of slot i is one more, modulo 2^32.
+// Slot i has no record, its generation is one more, modulo 2^32, and its colour is free.
 fn age_slot(w: &mut [u32], a: Arena, i: usize)
     requires { ⌜ Room a (now w) ⌝ }
     requires { ⌜ i < a .slots ⌝ }
-    ensures { λ _. ⌜ now (w .exit) ≡ aged a i (now (w .entry)) ⌝ }
+    ensures { λ _. ⌜ now (w .exit) ≡ setColour a i 0 (aged a i (setExtent a i 0 (now (w .entry)))) ⌝ }
 {
-    let g = generation_of(w, a, i);
-    set_generation(w, a, i, std::num::wrapping_add_u32(g, 1));
+    let size = a.base + 3 * a.slots + i;
+    let at = a.base + a.slots + i;
+    let paint = a.base + i;
+    w[size] = 0;
+    w[at] = std::num::wrapping_add_u32(w[at], 1);
+    w[paint] = 0;
 }
 
-// Slot i becomes the head of the chain.
+// Slot i becomes the head of the chain, and one slot less is occupied.
 fn push_slot(w: &mut [u32], a: Arena, i: usize)
     requires { ⌜ Room a (now w) ⌝ }
     requires { ⌜ i < a .slots ⌝ }
-    ensures { λ _. ⌜ now (w .exit) ≡ pushed a i (now (w .entry)) ⌝ }
+    ensures { λ _. ⌜ now (w .exit) ≡ countLess a (pushed a i (now (w .entry))) ⌝ }
 {
-    let h = head_of(w, a);
-    set_link(w, a, i, h);
-    set_head(w, a, i as u32 + 1);
-}
-
-fn count_less(w: &mut [u32], a: Arena)
-    requires { ⌜ Room a (now w) ⌝ }
-    ensures { λ _. ⌜ now (w .exit) ≡ countLess a (now (w .entry)) ⌝ }
-{
-    let n = count_of(w, a);
-    set_count(w, a, base::count_down(n));
-}
-
-fn count_more(w: &mut [u32], a: Arena)
-    requires { ⌜ Room a (now w) ⌝ }
-    ensures { λ _. ⌜ now (w .exit) ≡ countMore a (now (w .entry)) ⌝ }
-{
-    let n = count_of(w, a);
-    set_count(w, a, base::count_up(n));
-}
-
-// Slot i, emptied, is free: one generation more, and the head of the chain.
-fn chain_slot(w: &mut [u32], a: Arena, i: usize)
-    requires { ⌜ Room a (now w) ⌝ }
-    requires { ⌜ i < a .slots ⌝ }
-    ensures { λ _. ⌜ now (w .exit) ≡ chained a i (now (w .entry)) ⌝ }
-{
-    age_slot(w, a, i);
-    set_colour(w, a, i, 0);
-    push_slot(w, a, i);
-    count_less(w, a);
+    let at = a.base + 2 * a.slots + i;
+    let top = a.top;
+    let count = a.top + 2;
+    w[at] = w[top];
+    w[top] = i as u32 + 1;
+    w[count] = base::count_down(w[count]);
 }
 
 // Slot i is freed. This is the one place that frees.
@@ -332,8 +241,10 @@ pub fn free_slot(w: &mut [u32], b: &mut [u8], a: Arena, i: usize)
     requires { ⌜ i < a .slots ⌝ }
     ensures { λ _. ⌜ heap (now (w .exit)) (now (b .exit)) ≡ freeSlot a i (heap (now (w .entry)) (now (b .entry))) ⌝ }
 {
-    empty_slot(w, b, a, i);
-    chain_slot(w, a, i);
+    clear_body(w, a, i);
+    clear_text(b, a, i);
+    age_slot(w, a, i);
+    push_slot(w, a, i);
 }
 
 // The slot that a handle names is freed; a handle that names none is refused with 2.
@@ -357,32 +268,39 @@ fn fill_slot(w: &mut [u32], a: Arena, i: usize, c: u32, n: u32)
     requires { ⌜ i < a .slots ⌝ }
     ensures { λ _. ⌜ now (w .exit) ≡ filled a i c n (now (w .entry)) ⌝ }
 {
-    set_colour(w, a, i, c);
-    set_extent(w, a, i, n);
-    count_more(w, a);
+    let paint = a.base + i;
+    let size = a.base + 3 * a.slots + i;
+    let count = a.top + 2;
+    w[paint] = c;
+    w[size] = n;
+    w[count] = base::count_up(w[count]);
 }
 
-// Slot i, the head, leaves the chain and is occupied.
-fn pop_slot(w: &mut [u32], a: Arena, i: usize, c: u32, n: u32)
+// Slot i, the head, leaves the chain. Its generation is the answer.
+fn pop_slot(w: &mut [u32], a: Arena, i: usize) -> u32
     requires { ⌜ Room a (now w) ⌝ }
     requires { ⌜ i < a .slots ⌝ }
-    ensures { λ _. ⌜ now (w .exit) ≡ popped a i c n (now (w .entry)) ⌝ }
+    ensures { λ r. ⌜ (r ≡ gen a i (now (w .entry))) × (now (w .exit) ≡ setLink a i 0 (setHead a (link a i (now (w .entry))) (now (w .entry)))) ⌝ }
 {
-    let x = link_of(w, a, i);
-    set_head(w, a, x);
-    set_link(w, a, i, 0);
-    fill_slot(w, a, i, c, n);
+    let at = a.base + 2 * a.slots + i;
+    let top = a.top;
+    let age = a.base + a.slots + i;
+    let g = w[age];
+    w[top] = w[at];
+    w[at] = 0;
+    g
 }
 
-// Slot i, the fresh index, begins at generation 0 and is occupied.
-fn open_slot(w: &mut [u32], a: Arena, i: usize, c: u32, n: u32)
+// Slot i, the fresh index, begins at generation 0.
+fn open_slot(w: &mut [u32], a: Arena, i: usize)
     requires { ⌜ Room a (now w) ⌝ }
     requires { ⌜ i < a .slots ⌝ }
-    ensures { λ _. ⌜ now (w .exit) ≡ opened a i c n (now (w .entry)) ⌝ }
+    ensures { λ _. ⌜ now (w .exit) ≡ setGen a i 0 (setFresh a (i + 1) (now (w .entry))) ⌝ }
 {
-    set_fresh(w, a, i as u32 + 1);
-    set_generation(w, a, i, 0);
-    fill_slot(w, a, i, c, n);
+    let next = a.top + 1;
+    let at = a.base + a.slots + i;
+    w[next] = i as u32 + 1;
+    w[at] = 0;
 }
 
 // No slot was found: every slot is occupied, or the words are damaged. This is the one place that decides "no room".
@@ -408,8 +326,8 @@ fn take_head(w: &mut [u32], a: Arena, i: usize, c: u32, n: u32) -> Took
     if 0 < colour_of(w, a, i) {
         return no_room(w, a);
     }
-    let g = generation_of(w, a, i);
-    pop_slot(w, a, i, c, n);
+    let g = pop_slot(w, a, i);
+    fill_slot(w, a, i, c, n);
     Took::Slot(i, g)
 }
 
@@ -425,7 +343,8 @@ fn take_fresh(w: &mut [u32], a: Arena, i: usize, c: u32, n: u32) -> Took
     if 0 < colour_of(w, a, i) {
         return no_room(w, a);
     }
-    open_slot(w, a, i, c, n);
+    open_slot(w, a, i);
+    fill_slot(w, a, i, c, n);
     Took::Slot(i, 0)
 }
 
@@ -434,11 +353,13 @@ pub fn take_slot(w: &mut [u32], a: Arena, c: u32, n: u32) -> Took
     requires { ⌜ Room a (now w) ⌝ }
     ensures { λ r. ⌜ ((r, now (w .exit)) ≡ takeSlot a c n (now (w .entry))) × Taken r (a .slots) ⌝ }
 {
-    let h = head_of(w, a);
+    let top = a.top;
+    let h = wide(w[top]);
     if 0 < h {
-        return take_head(w, a, wide(h) - 1, c, n);
+        return take_head(w, a, h - 1, c, n);
     }
-    let f = fresh_of(w, a);
+    let fresh = a.top + 1;
+    let f = wide(w[fresh]);
     take_fresh(w, a, f, c, n)
 }
 
@@ -458,6 +379,7 @@ fn visit_slot(
     ensures does { λ r. ⌜ (r, heap (now (w .exit)) (now (b .exit))) ≡ visit a dead white i s (heap (now (w .entry)) (now (b .entry))) ⌝ }
     ensures small { λ r. ⌜ r .freed ≤ i + 1 ⌝ }
 {
+    let at = a.base + i;
     let c = colour_of(w, a, i);
     if c == 0 {
         return s;
@@ -469,7 +391,7 @@ fn visit_slot(
             freed: s.freed + 1,
         };
     }
-    set_colour(w, a, i, white);
+    w[at] = white;
     Sweep {
         left: s.left - 1,
         freed: s.freed,

@@ -10,4 +10,5 @@ pub mod Takes
 pub mod Frees
 pub mod Sweeps
 pub mod Lives
+pub mod Examples
 pub mod Example

@@ -1,35 +1,71 @@
--- `arena::pop_slot` meets its contract: the callees' equations joined. Assumes nothing.
+-- `arena::pop_slot` meets its contract: a store keeps the length. Assumes nothing.
 use borrow.Author.Needs.{needs}
-use Rattle.arena.specs.Slots.{popped}
+use lib.ListN.{length-set}
+use native.Mathlib.Omega.{arith}
 use Rattle.arena.proofs.pop_slot.Statement.{statement}
 use Rattle.arena.proofs.pop_slot.Tie as tie
 
-link-of-requires : tie.Need-link-of-requires
-link-of-requires c κs = search needs
+mul-at : tie.Need-mul-at
+mul-at c = search needs
 
-set-head-requires : tie.Need-set-head-requires
-set-head-requires c κs = search needs
+add-at : tie.Need-add-at
+add-at c = search needs
 
-set-link-requires : tie.Need-set-link-requires
-set-link-requires c κs = search needs
+add-at-2 : tie.Need-add-at-2
+add-at-2 c = search needs
 
-fill-slot-requires : tie.Need-fill-slot-requires
-fill-slot-requires c κs = search needs
+add-age : tie.Need-add-age
+add-age c = search needs
+
+add-age-2 : tie.Need-add-age-2
+add-age-2 c = search needs
+
+mul-g : tie.Need-mul-g
+mul-g c = search needs
+
+slice-read-g : tie.Need-slice-read-g
+slice-read-g c = search needs
+
+mul-w : tie.Need-mul-w
+mul-w c = search needs
+
+slice-read-w : tie.Need-slice-read-w
+slice-read-w c = search needs
+
+mul-w-2 : tie.Need-mul-w-2
+mul-w-2 c = search needs
+
+slice-write-w : tie.Need-slice-write-w
+slice-write-w c = search needs
+
+mul-w-3 : tie.Need-mul-w-3
+mul-w-3 c = search needs
+
+slice-write-w-2 : tie.Need-slice-write-w-2
+slice-write-w-2 c = simp length-set (omega arith)
 
 same-length : tie.Need-same-length
 same-length c = search needs
 
 returns : tie.Need-returns
-unfolding popped
-returns c = rw (← c .before .before .before .before .before .before .before .before .before .before .before .before .link-of .ensures, ← c .before .before .before .before .before .before .before .before .before .before .set-head .ensures, ← c .before .before .before .before .before .before .set-link .ensures) (c .before .before .fill-slot .ensures)
+returns c = search needs
 
 pub pop-slot-spec : {M : Type 1} → statement M
 pop-slot-spec =
     tie.close
     (tie.spec
-    link-of-requires
-    set-head-requires
-    set-link-requires
-    fill-slot-requires
+    mul-at
+    add-at
+    add-at-2
+    add-age
+    add-age-2
+    mul-g
+    slice-read-g
+    mul-w
+    slice-read-w
+    mul-w-2
+    slice-write-w
+    mul-w-3
+    slice-write-w-2
     same-length
     returns)

@@ -1,7 +1,7 @@
 -- `arena::take_fresh` meets its contract: each way by its test. Assumes nothing.
 use borrow.Author.Needs.{needs}
 use native.Mathlib.Omega.{arith}
-use Rattle.arena.specs.Slots.{takeFresh}
+use Rattle.arena.specs.Slots.{opened, takeFresh}
 use Rattle.base.specs.Ways.{lt-yes, lt-no, le-yes, le-no}
 use Rattle.arena.proofs.take_fresh.Statement.{statement}
 use Rattle.arena.proofs.take_fresh.Tie as tie
@@ -32,12 +32,15 @@ returns-2 c = (le-no _ _ _ _ _ (omega arith) (lt-yes _ _ _ _ _ (omega arith) (rw
 open-slot-requires : tie.Need-open-slot-requires
 open-slot-requires c κs = search needs
 
+fill-slot-requires : tie.Need-fill-slot-requires
+fill-slot-requires c κs = search needs
+
 same-length-3 : tie.Need-same-length-3
 same-length-3 c = search needs
 
 returns-3 : tie.Need-returns-3
-unfolding takeFresh
-returns-3 c = (le-no _ _ _ _ _ (omega arith) (lt-no _ _ _ _ _ (omega arith) (rw (c .before .before .open-slot .ensures))), omega arith)
+unfolding takeFresh opened
+returns-3 c = (le-no _ _ _ _ _ (omega arith) (lt-no _ _ _ _ _ (omega arith) (rw (← c .before .before .before .before .before .before .open-slot .ensures, ← c .before .before .fill-slot .ensures))), omega arith)
 
 pub take-fresh-spec : {M : Type 1} → statement M
 take-fresh-spec =
@@ -51,5 +54,6 @@ take-fresh-spec =
     same-length-2
     returns-2
     open-slot-requires
+    fill-slot-requires
     same-length-3
     returns-3)

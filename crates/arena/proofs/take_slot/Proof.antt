@@ -1,13 +1,16 @@
 -- `arena::take_slot` meets its contract: each way by its test. Assumes nothing.
-use borrow.Author.Needs.{needs}
-use native.Mathlib.Omega.{arith}
 use Rattle.arena.specs.Slots.{takeSlot}
 use Rattle.base.specs.Ways.{lt-yes, lt-no}
+use borrow.Author.Needs.{needs}
+use native.Mathlib.Omega.{arith}
 use Rattle.arena.proofs.take_slot.Statement.{statement}
 use Rattle.arena.proofs.take_slot.Tie as tie
 
-head-of-requires : tie.Need-head-of-requires
-head-of-requires c κs = search needs
+mul-wide : tie.Need-mul-wide
+mul-wide c = search needs
+
+slice-read-wide : tie.Need-slice-read-wide
+slice-read-wide c = search needs
 
 wide-requires : tie.Need-wide-requires
 wide-requires c κs = search needs
@@ -23,10 +26,19 @@ same-length c = search needs
 
 returns : tie.Need-returns
 unfolding takeSlot
-returns c = (lt-yes _ _ _ _ _ (omega arith) (rw (← c .before .before .before .before .before .before .head-of .ensures, ← c .before .before .before .wide .ensures .0) (c .before .before .take-head .ensures .0)), c .before .before .take-head .ensures .1)
+returns c = (lt-yes _ _ _ _ _ (omega arith) (rw (← c .before .before .before .before .before .wide .ensures .0) (c .before .before .take-head .ensures .0)), c .before .before .take-head .ensures .1)
 
-fresh-of-requires : tie.Need-fresh-of-requires
-fresh-of-requires c κs = search needs
+add-fresh : tie.Need-add-fresh
+add-fresh c = search needs
+
+mul-wide-2 : tie.Need-mul-wide-2
+mul-wide-2 c = search needs
+
+slice-read-wide-2 : tie.Need-slice-read-wide-2
+slice-read-wide-2 c = search needs
+
+wide-requires-2 : tie.Need-wide-requires-2
+wide-requires-2 c κs = search needs
 
 take-fresh-requires : tie.Need-take-fresh-requires
 take-fresh-requires c κs = search needs
@@ -36,19 +48,23 @@ same-length-2 c = search needs
 
 returns-2 : tie.Need-returns-2
 unfolding takeSlot
-returns-2 c = (lt-no _ _ _ _ _ (omega arith) (rw (← c .before .before .before .before .fresh-of .ensures) (c .before .before .take-fresh .ensures .0)), c .before .before .take-fresh .ensures .1)
+returns-2 c = (lt-no _ _ _ _ _ (omega arith) (rw (← c .before .before .before .before .wide2 .ensures .0) (c .before .before .take-fresh .ensures .0)), c .before .before .take-fresh .ensures .1)
 
 pub take-slot-spec : {M : Type 1} → statement M
 take-slot-spec =
     tie.close
     (tie.spec
-    head-of-requires
+    mul-wide
+    slice-read-wide
     wide-requires
     sub-take-head
     take-head-requires
     same-length
     returns
-    fresh-of-requires
+    add-fresh
+    mul-wide-2
+    slice-read-wide-2
+    wide-requires-2
     take-fresh-requires
     same-length-2
     returns-2)

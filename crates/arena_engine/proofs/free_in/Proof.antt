@@ -21,7 +21,7 @@ same-length-2 c = search needs
 
 returns : tie.Need-returns
 unfolding freeIn
-returns c = rw (← c .before .before .before .before .before .before .free .ensures, c .enum-told .given .1) (cc)
+returns c = rw (← c .before .before .before .before .before .before .free .ensures, c .enum-told .given .1)
 
 same-length-3 : tie.Need-same-length-3
 same-length-3 c = search needs
@@ -31,7 +31,7 @@ same-length-4 c = search needs
 
 returns-2 : tie.Need-returns-2
 unfolding freeIn
-returns-2 c = rw (← c .before .before .before .before .before .before .before .free .ensures, c .before .r .given .1) (cc)
+returns-2 c = rw (← c .before .before .before .before .before .before .before .free .ensures, c .before .r .given .1)
 
 pub free-in-spec : {M : Type 1} → statement M
 free-in-spec =

@@ -21,7 +21,7 @@ same-length c = search needs
 
 returns : tie.Need-returns
 unfolding paintIn
-returns c = rw (← c .before .before .before .before .before .before .before .name-of .ensures .0, c .before .before .before .before .before .i .given .1) (cc)
+returns c = rw (← c .before .before .before .before .before .before .before .name-of .ensures .0, c .before .before .before .before .before .i .given .1, c .before .before .set-colour .ensures)
 
 same-length-2 : tie.Need-same-length-2
 same-length-2 c = search needs

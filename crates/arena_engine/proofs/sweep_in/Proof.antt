@@ -27,7 +27,7 @@ same-length-3 c = search needs
 
 returns : tie.Need-returns
 unfolding sweepIn
-returns c = rw (← c .before .before .before .before .before .before .before .before .before .before .wide .ensures .0, ← c .before .before .before .before .before .before .before .before .before .wide2 .ensures .0, ← c .before .before .before .before .before .before .before .before .sweep-partial .ensures .0) (cc)
+returns c = rw (← c .before .before .before .before .before .before .before .before .before .before .wide .ensures .0, ← c .before .before .before .before .before .before .before .before .before .wide2 .ensures .0, ← c .before .before .before .before .before .before .before .before .sweep-partial .ensures .0, c .before .before .tell-swept .ensures)
 
 pub sweep-in-spec : {M : Type 1} → statement M
 sweep-in-spec =

@@ -31,21 +31,21 @@ same-length-2 c = search needs
 
 returns : tie.Need-returns
 unfolding takeIn
-returns c = rw (← c .before .before .before .before .before .before .before .before .before .take-slot .ensures .0, c .before .before .before .before .before .i .given .1) (cc)
+returns c = rw (← c .before .before .before .before .before .before .before .before .before .take-slot .ensures .0, c .before .before .before .before .before .i .given .1, c .before .before .tell .ensures)
 
 same-length-3 : tie.Need-same-length-3
 same-length-3 c = search needs
 
 returns-2 : tie.Need-returns-2
 unfolding takeIn
-returns-2 c = rw (← c .before .before .before .before .take-slot .ensures .0, c .enum-told .given .1) (cc)
+returns-2 c = rw (← c .before .before .before .before .take-slot .ensures .0, c .enum-told .given .1)
 
 same-length-4 : tie.Need-same-length-4
 same-length-4 c = search needs
 
 returns-3 : tie.Need-returns-3
 unfolding takeIn
-returns-3 c = rw (← c .before .before .before .before .take-slot .ensures .0, c .enum-told2 .given .1) (cc)
+returns-3 c = rw (← c .before .before .before .before .take-slot .ensures .0, c .enum-told2 .given .1)
 
 pub take-in-spec : {M : Type 1} → statement M
 take-in-spec =

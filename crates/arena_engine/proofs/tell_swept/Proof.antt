@@ -22,7 +22,7 @@ same-length : tie.Need-same-length
 same-length c = search needs
 
 returns : tie.Need-returns
-returns c = cc
+returns c = rw (← c .before .before .before .before .before .before .before .tell .ensures, ← c .before .before .before .flag .ensures) (c .before .before .put .ensures)
 
 pub tell-swept-spec : {M : Type 1} → statement M
 tell-swept-spec =

@@ -22,7 +22,7 @@ same-length : tie.Need-same-length
 same-length c = search needs
 
 returns : tie.Need-returns
-returns c = cc
+returns c = rw (← c .before .before .before .before .before .before .before .before .low-half .ensures, ← c .before .before .before .before .before .before .before .put .ensures, ← c .before .before .before .high-half .ensures) (c .before .before .put2 .ensures)
 
 pub put64-spec : {M : Type 1} → statement M
 put64-spec =
