@@ -15,7 +15,6 @@ ghost use lib.Dec.{eqb, ltb};
 ghost use lib.ListN.{length};
 ghost use Rattle.base.specs.Words.{at, put, bounded};
 ghost use Rattle.arena.specs.Slots.{Room};
-ghost use Rattle.value.specs.Values.{wordOf};
 ghost use Rattle.record.specs.Fields.{bodyAt, upvalAt, putUpval, putFlag};
 
 // The place of slot i's body.
@@ -73,18 +72,12 @@ pub fn is_set(w: &[u32], p: usize) -> bool
     0 < w[p]
 }
 
-fn word_of(b: bool) -> u32
-    ensures { λ r. ⌜ r ≡ wordOf b ⌝ }
-{
-    if b { 1 } else { 0 }
-}
-
 // 1 for yes, 0 for no.
 pub fn put_flag(w: &mut [u32], p: usize, b: bool)
     requires { ⌜ p < length (now w) ⌝ }
     ensures { λ _. ⌜ now (w .exit) ≡ putFlag p b (now (w .entry)) ⌝ }
 {
-    base::put(w, p, word_of(b));
+    base::put(w, p, value::word_of(b));
 }
 
 // An upvalue's handle in words p and p + 1: index and generation.

@@ -69,7 +69,8 @@ pub fn tag_of(v: Value) -> u32
     }
 }
 
-fn word_of(b: bool) -> u32
+// A boolean as a word: 1 for true, 0 for false.
+pub fn word_of(b: bool) -> u32
     ensures { λ r. ⌜ r ≡ wordOf b ⌝ }
 {
     if b { 1 } else { 0 }
