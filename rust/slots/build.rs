@@ -1,17 +1,5 @@
-//! Links the proved arena: `rt staticlib arena_engine` writes it below the repository's target folder.
-
-use std::path::Path;
+//! Links the proved arena.
 
 fn main() {
-    let root = Path::new(env!("CARGO_MANIFEST_DIR")).join("../..");
-    let folder = root.join("target/staticlib");
-    let archive = folder.join("libarena_engine.a");
-    println!("cargo::rerun-if-changed={}", archive.display());
-    if !archive.exists() {
-        println!(
-            "cargo::error=no libarena_engine.a: run `rt staticlib arena_engine` at the repository's root first"
-        );
-    }
-    println!("cargo::rustc-link-search=native={}", folder.display());
-    println!("cargo::rustc-link-lib=static=arena_engine");
+    proved::link("arena_engine");
 }

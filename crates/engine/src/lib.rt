@@ -3,8 +3,12 @@
 use layout::Opened;
 use layout::Sizes;
 use newheap::Made;
+
+mod header;
+mod objects;
+
 ghost use mathlib.Core.Path.{_≡_};
-ghost use Prim.Native.Nat.{ℕ, _≤_, _<_};
+ghost use Prim.Native.Nat.{_≤_, _<_};
 ghost use lib.ListN.{length};
 ghost use Rattle.base.specs.Words.{at};
 ghost use Rattle.base.specs.Heap.{heap};

@@ -30,7 +30,7 @@ pub enum Popped {
 }
 
 // The kind of an item: the tag of its value, and 9 for the main thread.
-fn kind_of(x: Item) -> u32
+pub fn kind_of(x: Item) -> u32
     ensures { λ r. ⌜ r ≡ kindOf x ⌝ }
 {
     match x {
@@ -43,7 +43,7 @@ fn kind_of(x: Item) -> u32
     }
 }
 
-fn index_of(x: Item) -> u32
+pub fn index_of(x: Item) -> u32
     ensures { λ r. ⌜ r ≡ indexOf x ⌝ }
 {
     match x {
@@ -56,7 +56,7 @@ fn index_of(x: Item) -> u32
     }
 }
 
-fn generation_of(x: Item) -> u32
+pub fn generation_of(x: Item) -> u32
     ensures { λ r. ⌜ r ≡ generationOf x ⌝ }
 {
     match x {

@@ -1,7 +1,6 @@
 // Test 1: what every call asks of the header, in the order and words of specs/Test1.antt.
 // It reads the header alone, 34 of its 91 words with the damage mark, and the two lengths: its cost does not grow with the slots.
 use base::wide;
-use layout::Lay;
 use layout::Opened;
 use layout::Sizes;
 ghost use mathlib.Core.Path.{_≡_};
@@ -9,9 +8,7 @@ ghost use Prim.Native.Nat.{ℕ, _+_, _≤_, _<_};
 ghost use lib.ListN.{length};
 ghost use Rattle.base.specs.Words.{at};
 ghost use Rattle.layout.specs.Table.{all};
-ghost use mathlib.Core.Bool.{true};
-ghost use Rattle.layout.specs.Sizes.{SizesOk, sizesFit};
-ghost use Rattle.layout.specs.Layout.{layOf};
+ghost use Rattle.layout.specs.Sizes.{SizesOk};
 ghost use Rattle.layout.specs.Fits.{Gives};
 ghost use Rattle.test1.specs.Test1.{sizesAt, arenaRows, arenasFit, listRows, mainRows, stateRows, countsFit, opened};
 
@@ -105,12 +102,19 @@ fn counts_fit(w: &[u32], s: Sizes) -> bool
     arenas_fit(w, s) & lists_fit(w, s) & main_fits(w, s) & state_fits(w)
 }
 
-// The counts, then both lengths, then the damage mark: what is left where the sizes are within their ranges.
-fn fits(w: &[u32], b: &[u8], s: Sizes, l: Lay) -> Opened
-    requires { ⌜ 91 ≤ length (now w) ⌝ }
-    requires { ⌜ (s ≡ sizesAt (now w)) × (sizesFit s ≡ true) × (l ≡ layOf s) ⌝ }
+// What every call begins with: test 1, then the damage mark, else the layout. It reads the header alone and the two
+// lengths, so its cost does not grow with the slots. The layout is handed on as it was made, and not made anew.
+pub fn enter(w: &[u32], b: &[u8]) -> Opened
     ensures { λ r. ⌜ (r ≡ opened (now (w .entry)) (length (now (b .entry)))) × Gives r (length (now (w .entry))) (length (now (b .entry))) ⌝ }
 {
+    if w.len() < layout::HEADER {
+        return Opened::Refused(1);
+    }
+    let s = sizes_at(w);
+    let o = layout::plan(s);
+    let Opened::Fits(l) = o else {
+        return Opened::Refused(1);
+    };
     if !counts_fit(w, s) {
         return Opened::Refused(1);
     }
@@ -123,20 +127,5 @@ fn fits(w: &[u32], b: &[u8], s: Sizes, l: Lay) -> Opened
     if base::get(w, layout::DAMAGE) != 0 {
         return Opened::Refused(8);
     }
-    Opened::Fits(l)
-}
-
-// What every call begins with: test 1, then the damage mark, else the layout. It reads the header alone and the two
-// lengths, so its cost does not grow with the slots.
-pub fn enter(w: &[u32], b: &[u8]) -> Opened
-    ensures { λ r. ⌜ (r ≡ opened (now (w .entry)) (length (now (b .entry)))) × Gives r (length (now (w .entry))) (length (now (b .entry))) ⌝ }
-{
-    if w.len() < layout::HEADER {
-        return Opened::Refused(1);
-    }
-    let s = sizes_at(w);
-    match layout::plan(s) {
-        Opened::Fits(l) => fits(w, b, s, l),
-        Opened::Refused(_) => Opened::Refused(1),
-    }
+    o
 }

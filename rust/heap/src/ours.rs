@@ -1,8 +1,10 @@
 //! The exported functions behind a safe interface. All that is unsafe in this crate stands here.
 
+use proved::{Refused, answered};
+
+// A slice passes as a pointer and a length. Nothing checks these declarations against the Rattle
+// source, so they are few, and each is compared with the source's heap.
 mod exported {
-    // A slice passes as a pointer and a length. Nothing checks these declarations against the
-    // Rattle source, so they are few, and each is compared with the source's heap.
     unsafe extern "C" {
         pub fn sieddesan_needed(
             sizes: *const u32,
@@ -18,18 +20,6 @@ mod exported {
             sizes: *const u32,
             sizes_len: usize,
         ) -> u32;
-    }
-}
-
-/// A refusal number of document 01.
-#[derive(Clone, Copy, Debug, PartialEq, Eq)]
-pub struct Refused(pub u32);
-
-fn answered(code: u32) -> Result<(), Refused> {
-    if code == 0 {
-        Ok(())
-    } else {
-        Err(Refused(code))
     }
 }
 
@@ -80,4 +70,61 @@ impl Words {
             )
         })
     }
+}
+
+/// The reads: each has the two buffers, its numbers and the words for the answer.
+macro_rules! reads {
+    ($($method:ident: $name:ident($($number:ident),*);)*) => {
+        mod read {
+            unsafe extern "C" {
+                $(pub fn $name(
+                    w: *const u32,
+                    w_len: usize,
+                    b: *const u8,
+                    b_len: usize,
+                    $($number: u32,)*
+                    out: *mut u32,
+                    out_len: usize,
+                ) -> u32;)*
+            }
+        }
+
+        /// The reads by numbers; `out` has the answer's four words.
+        impl Words {
+            $(
+                /// # Errors
+                /// A refusal; `out` is then as it was.
+                pub fn $method(&self, $($number: u32,)* out: &mut [u32]) -> Result<(), Refused> {
+                    let (w, b) = (&self.words, &self.bytes);
+                    // SAFETY: as in `needed_in`.
+                    answered(unsafe {
+                        read::$name(
+                            w.as_ptr(),
+                            w.len(),
+                            b.as_ptr(),
+                            b.len(),
+                            $($number,)*
+                            out.as_mut_ptr(),
+                            out.len(),
+                        )
+                    })
+                }
+            )*
+        }
+    };
+}
+
+reads! {
+    read_counter: sieddesan_read_counter(counter);
+    read_root: sieddesan_read_root(root, index);
+    read_main: sieddesan_read_main(field, index);
+    read_list: sieddesan_read_list(list, field, index);
+    read_arena: sieddesan_read_arena(kind, field, index);
+    read_string: sieddesan_read_string(index, generation, field, at);
+    read_table: sieddesan_read_table(index, generation, field, at);
+    read_closure: sieddesan_read_closure(index, generation, field, at);
+    read_upvalue: sieddesan_read_upvalue(index, generation, field);
+    read_userdata: sieddesan_read_userdata(index, generation, field);
+    read_thread: sieddesan_read_thread(index, generation, field, at);
+    read_proto: sieddesan_read_proto(number, field, at);
 }

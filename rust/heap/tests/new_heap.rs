@@ -1,5 +1,9 @@
-//! A new heap of ours beside the source's, with a fixed seed; sizes and lengths that are refused.
+//! A new heap of ours beside the source's, word by word and read by read, with a fixed seed; sizes
+//! and lengths that are refused.
 
+mod common;
+
+use common::tried;
 use heap::sizes::{RANGES, SMALLEST, outside, within};
 use heap::{Layout, Refused, Words, compared, needed, needed_in};
 use oracle::random::Random;
@@ -59,6 +63,8 @@ fn a_thousand_choices_outside_are_refused_with_4_and_change_nothing() {
         assert_eq!(needed(&sizes), Err(Refused(4)), "{place}");
         let source = Oracle::new(Sizes::from(sizes)).err();
         assert_eq!(source, Some(Refusal(4)), "{place}");
+        let unmade = tried(&heap, 4);
+        assert!(unmade.iter().all(|q| q.is_refused(1)), "{place}");
     }
 }
 

@@ -1,71 +1,63 @@
 //! The proved arena behind a safe interface. All that is unsafe in this crate stands here.
 
+use proved::{Refused, answered};
+
 /// Words of a slot's body in this comparison.
 pub const STRIDE: usize = 2;
 /// Bytes of a slot in this comparison.
 pub const WIDTH: usize = 4;
 
-mod exported {
-    // A slice passes as a pointer and a length. Nothing checks these declarations against the
-    // Rattle source, so they are few, and `Ours` is compared with the source at every call.
-    unsafe extern "C" {
-        pub fn sieddesan_arena_take(
-            w: *mut u32,
-            w_len: usize,
-            b: *const u8,
-            b_len: usize,
-            slots: usize,
-            stride: usize,
-            width: usize,
-            colour: u32,
-            size: u32,
-            out: *mut u32,
-            out_len: usize,
-        ) -> u32;
-        pub fn sieddesan_arena_free(
-            w: *mut u32,
-            w_len: usize,
-            b: *mut u8,
-            b_len: usize,
-            slots: usize,
-            stride: usize,
-            width: usize,
-            index: u32,
-            generation: u32,
-        ) -> u32;
-        pub fn sieddesan_arena_paint(
-            w: *mut u32,
-            w_len: usize,
-            b: *const u8,
-            b_len: usize,
-            slots: usize,
-            stride: usize,
-            width: usize,
-            index: u32,
-            generation: u32,
-            colour: u32,
-        ) -> u32;
-        pub fn sieddesan_arena_sweep(
-            w: *mut u32,
-            w_len: usize,
-            b: *mut u8,
-            b_len: usize,
-            slots: usize,
-            stride: usize,
-            width: usize,
-            dead: u32,
-            white: u32,
-            start: u32,
-            most: u32,
-            out: *mut u32,
-            out_len: usize,
-        ) -> u32;
-    }
+/// The exported functions: each has the arena's buffers and place, its numbers, and words for the
+/// answer where it gives any.
+// A slice passes as a pointer and a length. Nothing checks these declarations against the Rattle
+// source, so they are few, and `Ours` is compared with the source at every call.
+macro_rules! exported {
+    ($($visible:vis $method:ident: $name:ident($($number:ident),*) $(gives $out:ident)?;)*) => {
+        mod exported {
+            unsafe extern "C" {
+                $(pub fn $name(
+                    w: *mut u32,
+                    w_len: usize,
+                    b: *mut u8,
+                    b_len: usize,
+                    slots: usize,
+                    stride: usize,
+                    width: usize,
+                    $($number: u32,)*
+                    $($out: *mut u32, out_len: usize)?
+                ) -> u32;)*
+            }
+        }
+
+        impl Ours {
+            $($visible fn $method(&mut self, $($number: u32,)* $($out: &mut [u32])?) -> Result<(), Refused> {
+                let (w, b) = (&mut self.words, &mut self.bytes);
+                // SAFETY: each pointer is that of a live slice, with its length; the function has
+                // no requirement and writes only within the lengths given.
+                answered(unsafe {
+                    exported::$name(
+                        w.as_mut_ptr(),
+                        w.len(),
+                        b.as_mut_ptr(),
+                        b.len(),
+                        self.slots,
+                        STRIDE,
+                        WIDTH,
+                        $($number,)*
+                        $($out.as_mut_ptr(), $out.len())?
+                    )
+                })
+            })*
+        }
+    };
 }
 
-/// A refusal number of document 01.
-#[derive(Clone, Copy, Debug, PartialEq, Eq)]
-pub struct Refused(pub u32);
+exported! {
+    arena_take: sieddesan_arena_take(colour, size) gives out;
+    pub free: sieddesan_arena_free(index, generation);
+    pub paint: sieddesan_arena_paint(index, generation, colour);
+    arena_sweep: sieddesan_arena_sweep(dead, white, start, most) gives out;
+}
 
 /// What a sweep did, where the next one starts, and whether it reached the end.
 #[derive(Clone, Copy, Debug, PartialEq, Eq)]
@@ -83,34 +75,6 @@ pub struct Ours {
     pub bytes: Vec<u8>,
 }
 
-fn answered(code: u32) -> Result<(), Refused> {
-    if code == 0 {
-        Ok(())
-    } else {
-        Err(Refused(code))
-    }
-}
-
-/// Calls an exported function on the arena's buffers and place, with these arguments after them.
-macro_rules! exported {
-    ($ours:ident, $name:ident, $($argument:expr),*) => {
-        // SAFETY: each pointer is that of a live slice, with its length; the function has no
-        // requirement and writes only within the lengths given.
-        unsafe {
-            exported::$name(
-                $ours.words.as_mut_ptr(),
-                $ours.words.len(),
-                $ours.bytes.as_mut_ptr(),
-                $ours.bytes.len(),
-                $ours.slots,
-                STRIDE,
-                WIDTH,
-                $($argument),*
-            )
-        }
-    };
-}
-
 impl Ours {
     /// Zeroed words are an empty arena.
     pub fn new(slots: usize) -> Self {
@@ -122,24 +86,9 @@ impl Ours {
     }
 
     pub fn take(&mut self, colour: u32) -> Result<(u32, u32), Refused> {
-        let (mut out, size) = ([0; 3], STRIDE as u32);
-        let (place, length) = (out.as_mut_ptr(), out.len());
-        let code = exported!(self, sieddesan_arena_take, colour, size, place, length);
-        answered(code).map(|()| (out[0], out[1]))
-    }
-
-    pub fn free(&mut self, index: u32, generation: u32) -> Result<(), Refused> {
-        answered(exported!(self, sieddesan_arena_free, index, generation))
-    }
-
-    pub fn paint(&mut self, index: u32, generation: u32, colour: u32) -> Result<(), Refused> {
-        answered(exported!(
-            self,
-            sieddesan_arena_paint,
-            index,
-            generation,
-            colour
-        ))
+        let mut out = [0; 3];
+        self.arena_take(colour, STRIDE as u32, &mut out)?;
+        Ok((out[0], out[1]))
     }
 
     pub fn sweep(
@@ -150,18 +99,8 @@ impl Ours {
         most: u32,
     ) -> Result<Swept, Refused> {
         let mut out = [0; 3];
-        let (place, length) = (out.as_mut_ptr(), out.len());
-        let code = exported!(
-            self,
-            sieddesan_arena_sweep,
-            dead,
-            white,
-            start,
-            most,
-            place,
-            length
-        );
-        answered(code).map(|()| Swept {
+        self.arena_sweep(dead, white, start, most, &mut out)?;
+        Ok(Swept {
             freed: out[0],
             next: out[1],
             done: out[2] == 1,

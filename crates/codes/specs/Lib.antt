@@ -1,0 +1,4 @@
+pub mod Numbers
+pub mod Header
+pub mod Objects
+pub mod Answers

@@ -1,0 +1,201 @@
+// The header and the slots asked by number. An index that a question has no use for is not looked at.
+use reads::Counter;
+use reads::Kind;
+use reads::Listed;
+use reads::Main;
+use reads::Read;
+use reads::Root;
+use reads::Slots;
+use reads::Which;
+ghost use mathlib.Core.Path.{_≡_};
+ghost use Rattle.base.specs.Heap.{heap};
+ghost use Rattle.codes.specs.Header.{counterOf, askCounter, rootOf, askRoot, mainOf, askMain, whichOf, listedOf, askList, kindOf, slotsOf, askArena};
+
+pub enum CounterOr {
+    Unknown,
+    Known(Counter),
+}
+
+pub enum RootOr {
+    Unknown,
+    Known(Root),
+}
+
+pub enum MainOr {
+    Unknown,
+    Known(Main),
+}
+
+pub enum WhichOr {
+    Unknown,
+    Known(Which),
+}
+
+pub enum ListedOr {
+    Unknown,
+    Known(Listed),
+}
+
+pub enum KindOr {
+    Unknown,
+    Known(Kind),
+}
+
+pub enum SlotsOr {
+    Unknown,
+    Known(Slots),
+}
+
+pub fn counter_of(n: u32) -> CounterOr
+    ensures { λ r. ⌜ r ≡ counterOf n ⌝ }
+{
+    match n {
+        0 => CounterOr::Known(Counter::Prototypes),
+        1 => CounterOr::Known(Counter::Limit),
+        2 => CounterOr::Known(Counter::Pause),
+        3 => CounterOr::Known(Counter::Stepmul),
+        4 => CounterOr::Known(Counter::Creation),
+        5 => CounterOr::Known(Counter::Phase),
+        6 => CounterOr::Known(Counter::White),
+        7 => CounterOr::Known(Counter::CursorArena),
+        8 => CounterOr::Known(Counter::CursorSlot),
+        9 => CounterOr::Known(Counter::Total),
+        10 => CounterOr::Known(Counter::Peak),
+        11 => CounterOr::Known(Counter::Estimate),
+        12 => CounterOr::Known(Counter::Threshold),
+        13 => CounterOr::Known(Counter::Debt),
+        14 => CounterOr::Known(Counter::Interrupted),
+        15 => CounterOr::Known(Counter::Remaining),
+        _ => CounterOr::Unknown,
+    }
+}
+
+pub fn root_of(n: u32, k: u32) -> RootOr
+    ensures { λ r. ⌜ r ≡ rootOf n k ⌝ }
+{
+    match n {
+        0 => RootOr::Known(Root::Global),
+        1 => RootOr::Known(Root::Registry),
+        2 => RootOr::Known(Root::Mode),
+        3 => RootOr::Known(Root::Gc),
+        4 => RootOr::Known(Root::Type(k)),
+        _ => RootOr::Unknown,
+    }
+}
+
+pub fn main_of(n: u32, i: u32) -> MainOr
+    ensures { λ r. ⌜ r ≡ mainOf n i ⌝ }
+{
+    match n {
+        0 => MainOr::Known(Main::Top),
+        1 => MainOr::Known(Main::Opens),
+        2 => MainOr::Known(Main::Ci),
+        3 => MainOr::Known(Main::Error),
+        4 => MainOr::Known(Main::Hook),
+        5 => MainOr::Known(Main::Stack(i)),
+        6 => MainOr::Known(Main::Open(i)),
+        7 => MainOr::Known(Main::Frame(i)),
+        _ => MainOr::Unknown,
+    }
+}
+
+pub fn which_of(n: u32) -> WhichOr
+    ensures { λ r. ⌜ r ≡ whichOf n ⌝ }
+{
+    match n {
+        0 => WhichOr::Known(Which::Gray),
+        1 => WhichOr::Known(Which::Grayagain),
+        2 => WhichOr::Known(Which::Weak),
+        3 => WhichOr::Known(Which::Queue),
+        _ => WhichOr::Unknown,
+    }
+}
+
+pub fn listed_of(n: u32, i: u32) -> ListedOr
+    ensures { λ r. ⌜ r ≡ listedOf n i ⌝ }
+{
+    match n {
+        0 => ListedOr::Known(Listed::Length),
+        1 => ListedOr::Known(Listed::At(i)),
+        _ => ListedOr::Unknown,
+    }
+}
+
+pub fn kind_of(n: u32) -> KindOr
+    ensures { λ r. ⌜ r ≡ kindOf n ⌝ }
+{
+    match n {
+        0 => KindOr::Known(Kind::Strings),
+        1 => KindOr::Known(Kind::Tables),
+        2 => KindOr::Known(Kind::Functions),
+        3 => KindOr::Known(Kind::Upvalues),
+        4 => KindOr::Known(Kind::Userdata),
+        5 => KindOr::Known(Kind::Threads),
+        _ => KindOr::Unknown,
+    }
+}
+
+pub fn slots_of(n: u32, i: u32) -> SlotsOr
+    ensures { λ r. ⌜ r ≡ slotsOf n i ⌝ }
+{
+    match n {
+        0 => SlotsOr::Known(Slots::Head),
+        1 => SlotsOr::Known(Slots::Fresh),
+        2 => SlotsOr::Known(Slots::Count),
+        3 => SlotsOr::Known(Slots::Generation(i)),
+        4 => SlotsOr::Known(Slots::Colour(i)),
+        5 => SlotsOr::Known(Slots::Link(i)),
+        _ => SlotsOr::Unknown,
+    }
+}
+
+pub fn ask_counter(w: &[u32], b: &[u8], n: u32) -> Read
+    ensures { λ r. ⌜ r ≡ askCounter n (heap (now (w .entry)) (now (b .entry))) ⌝ }
+{
+    match counter_of(n) {
+        CounterOr::Known(q) => reads::read_counter(w, b, q),
+        CounterOr::Unknown => crate::no_question(w, b),
+    }
+}
+
+pub fn ask_root(w: &[u32], b: &[u8], n: u32, k: u32) -> Read
+    ensures { λ r. ⌜ r ≡ askRoot n k (heap (now (w .entry)) (now (b .entry))) ⌝ }
+{
+    match root_of(n, k) {
+        RootOr::Known(q) => reads::read_root(w, b, q),
+        RootOr::Unknown => crate::no_question(w, b),
+    }
+}
+
+pub fn ask_main(w: &[u32], b: &[u8], n: u32, i: u32) -> Read
+    ensures { λ r. ⌜ r ≡ askMain n i (heap (now (w .entry)) (now (b .entry))) ⌝ }
+{
+    match main_of(n, i) {
+        MainOr::Known(q) => reads::read_main(w, b, q),
+        MainOr::Unknown => crate::no_question(w, b),
+    }
+}
+
+pub fn ask_list(w: &[u32], b: &[u8], l: u32, n: u32, i: u32) -> Read
+    ensures { λ r. ⌜ r ≡ askList l n i (heap (now (w .entry)) (now (b .entry))) ⌝ }
+{
+    match which_of(l) {
+        WhichOr::Known(which) => match listed_of(n, i) {
+            ListedOr::Known(q) => reads::read_list(w, b, which, q),
+            ListedOr::Unknown => crate::no_question(w, b),
+        },
+        WhichOr::Unknown => crate::no_question(w, b),
+    }
+}
+
+pub fn ask_arena(w: &[u32], b: &[u8], a: u32, n: u32, i: u32) -> Read
+    ensures { λ r. ⌜ r ≡ askArena a n i (heap (now (w .entry)) (now (b .entry))) ⌝ }
+{
+    match kind_of(a) {
+        KindOr::Known(k) => match slots_of(n, i) {
+            SlotsOr::Known(q) => reads::read_arena(w, b, k, q),
+            SlotsOr::Unknown => crate::no_question(w, b),
+        },
+        KindOr::Unknown => crate::no_question(w, b),
+    }
+}

@@ -1,0 +1,52 @@
+//! What the tests share.
+
+use heap::{Refused, Words};
+
+/// A read whose question is a number, and how many questions it has.
+type Read = (fn(&Words, u32, &mut [u32]) -> Result<(), Refused>, u32);
+
+const READS: [Read; 14] = [
+    (|h, n, out| h.read_counter(n, out), 16),
+    (|h, n, out| h.read_root(n, 0, out), 5),
+    (|h, n, out| h.read_main(n, 0, out), 8),
+    (|h, n, out| h.read_list(n, 0, 0, out), 4),
+    (|h, n, out| h.read_list(0, n, 0, out), 2),
+    (|h, n, out| h.read_arena(n, 0, 0, out), 6),
+    (|h, n, out| h.read_arena(0, n, 0, out), 6),
+    (|h, n, out| h.read_string(0, 0, n, 0, out), 2),
+    (|h, n, out| h.read_table(0, 0, n, 0, out), 6),
+    (|h, n, out| h.read_closure(0, 0, n, 0, out), 6),
+    (|h, n, out| h.read_upvalue(0, 0, n, out), 2),
+    (|h, n, out| h.read_userdata(0, 0, n, out), 4),
+    (|h, n, out| h.read_thread(0, 0, n, 0, out), 10),
+    (|h, n, out| h.read_proto(0, n, 0, out), 5),
+];
+
+/// A question: whether its number is one that asks something, the answer, and its words after it.
+pub struct Tried {
+    pub known: bool,
+    pub answer: Result<(), Refused>,
+    pub out: Vec<u32>,
+}
+
+impl Tried {
+    pub fn is_refused(&self, number: u32) -> bool {
+        self.answer == Err(Refused(number))
+    }
+}
+
+/// Every known question of every read, and some unknown ones, with so many words for the answer,
+/// all 7; a refusal has to leave them alone.
+pub fn tried(heap: &Words, room: usize) -> Vec<Tried> {
+    let mut all = Vec::new();
+    for (read, count) in READS {
+        for n in (0..count + 3).chain([u32::MAX]) {
+            let mut out = vec![7; room];
+            let answer = read(heap, n, &mut out);
+            assert!(answer.is_ok() || out == vec![7; room]);
+            let known = n < count;
+            all.push(Tried { known, answer, out });
+        }
+    }
+    all
+}
