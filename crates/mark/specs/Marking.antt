@@ -43,6 +43,18 @@ module _ {S : Type 0} (O : Ops S) where
   markTableOr (Present r) s = markTable r s
   markTableOr Absent s = s
 
+  -- The colour of what a value refers to, 0 where it refers to nothing.
+  unfoldable pub valueColour : Value → S → ℕ
+  valueColour Nil s = 0
+  valueColour (Boolean b) s = 0
+  valueColour (Light x) s = 0
+  valueColour (Number x) s = 0
+  valueColour (Str r) s = O .colour (str r) s
+  valueColour (Table r) s = O .colour (tab r) s
+  valueColour (Function r) s = O .colour (fun r) s
+  valueColour (Userdata r) s = O .colour (ud r) s
+  valueColour (Thread r) s = O .colour (thread r) s
+
   module _ (l : Lay) where
     -- A userdata is black, its metatable and env are marked.
     unfoldable pub followUserdata : UdRef → S → S

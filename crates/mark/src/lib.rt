@@ -22,7 +22,7 @@ ghost use Rattle.value.specs.Values.{isNil, valueOf, valueAt};
 ghost use Rattle.mark.specs.Ops.{isWhite};
 ghost use Rattle.mark.specs.Words.{shade, grayed, ops};
 ghost use Rattle.laid.specs.Laid.{Laid};
-ghost use Rattle.mark.specs.Marking.{markString, markTable, markTableOr, markClosure, markThread, followUserdata, markUserdata, followUpvalue, markUpvalue, markValue, markValueAt, markValues, markUpvalueAt, markUpvalues};
+ghost use Rattle.mark.specs.Marking.{markString, markTable, markTableOr, markClosure, markThread, followUserdata, markUserdata, followUpvalue, markUpvalue, valueColour, markValue, markValueAt, markValues, markUpvalueAt, markUpvalues};
 
 // The colour of the slot that a handle names, 0 where it names none.
 pub fn shade(w: &[u32], a: Arena, index: u32, generation: u32) -> u32
@@ -156,6 +156,22 @@ pub fn mark_value(w: &mut [u32], l: Lay, v: Value)
     ensures { λ _. ⌜ now (w .exit) ≡ markValue (ops l) l v (now (w .entry)) ⌝ }
 {
     mark_tagged(w, l, value::tag_of(v), value::low_of(v), value::high_of(v));
+}
+
+// The colour of what a value refers to, 0 where it refers to nothing.
+pub fn value_colour(w: &[u32], l: Lay, v: Value) -> u32
+    requires { ⌜ Laid l ⌝ }
+    requires { ⌜ l .words ≤ length (now w) ⌝ }
+    ensures { λ r. ⌜ r ≡ valueColour (ops l) v (now (w .entry)) ⌝ }
+{
+    match v {
+        Value::Str(r) => shade(w, l.strings, r.0, r.1),
+        Value::Table(r) => shade(w, l.tables, r.0, r.1),
+        Value::Function(r) => shade(w, l.functions, r.0, r.1),
+        Value::Userdata(r) => shade(w, l.userdata, r.0, r.1),
+        Value::Thread(r) => shade(w, l.threads, r.0, r.1),
+        _ => 0,
+    }
 }
 
 // The value in words p to p + 2.

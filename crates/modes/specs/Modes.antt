@@ -32,6 +32,12 @@ lookFrom (suc n) j p s w = cond (keyEqual (nodeKey p j w) (Str s)) (nodeValue p 
 abbrev pub lookUp : ℕ → StrRef → List ℕ → Value
 lookUp p s w = lookFrom (nodeCount p w) 0 p s w
 
+-- from the first node on it is the whole
+pub look-start : (n p : ℕ) (s : StrRef) (w : List ℕ) → n ≡ nodeCount p w → lookFrom (n - 0) 0 p s w ≡ lookUp p s w
+look-start n p s w e =
+    let q : n - 0 ≡ nodeCount p w = omega arith in
+    ap (λ (k : ℕ). lookFrom k 0 p s w) q
+
 -- a node is passed, is found, and there is none left: r is what the whole gives
 module _ (n j p : ℕ) (s : StrRef) (w : List ℕ) {r : Value} (rest : lookFrom (n - j) j p s w ≡ r) where
   step : j < n → cond (keyEqual (nodeKey p j w) (Str s)) (nodeValue p j w) (lookFrom (n - (j + 1)) (j + 1) p s w) ≡ r
