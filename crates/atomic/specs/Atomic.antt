@@ -1,7 +1,6 @@
 -- Document 01, 'The atomic phase', in its order. Assumes nothing.
 use mathlib.Core.List.{List}
 use Prim.Native.Nat.{ℕ, _+_, _-_, _*_}
-use Rattle.base.specs.Ways.{ifEq}
 use Rattle.base.specs.Loop.{run}
 use Rattle.base.specs.Words.{at, put}
 use Rattle.layout.specs.declared.Lay.{Lay}
@@ -9,6 +8,7 @@ use Rattle.layout.specs.Places.{PHASE, WHITE, CURSOR-ARENA, CURSOR-SLOT, TOTAL,
 use Rattle.lists.specs.declared.Item.{Item}
 use Rattle.lists.specs.declared.Item.the-variants.{Table, Function, Userdata, Thread, Main, Unknown}
 use Rattle.lists.specs.Lists.{lengthOf, itemAt, cleared}
+use Rattle.mark.specs.Ops.{otherWhite}
 use Rattle.mark.specs.Words.{ops}
 use Rattle.table_walk.specs.Tables.{traverseTable}
 use Rattle.run_walk.specs.Closures.{traverseClosure}
@@ -17,10 +17,6 @@ use Rattle.run_walk.specs.MainThread.{markMain}
 use Rattle.propagate.specs.Propagation.{propagateAll}
 use Rattle.separate.specs.Separation.{separated, markTmudata}
 use Rattle.clearing.specs.Entries.{clearWeakTables}
-
--- Whites are 1 and 2.
-abbrev pub otherWhite : ℕ → ℕ
-otherWhite c = ifEq c 1 2 1
 
 module _ (l : Lay) (b : List ℕ) where
   -- Main thread marked again, then `grayagain` in order, then all gray.

@@ -6,17 +6,7 @@ ghost use mathlib.Core.Path.{_≡_};
 ghost use Prim.Native.Nat.{_+_, _≤_, _<_};
 ghost use lib.ListN.{length};
 ghost use Rattle.laid.specs.Laid.{Laid};
-ghost use Rattle.atomic.specs.Atomic.{otherWhite, againItem, againListed, againAll, marked, finished, flipped, begun, atomic};
-
-// The white that is not this one.
-pub fn other_white(c: u32) -> u32
-    ensures { λ r. ⌜ r ≡ otherWhite c ⌝ }
-{
-    if c == 1 {
-        return 2;
-    }
-    1
-}
+ghost use Rattle.atomic.specs.Atomic.{againItem, againListed, againAll, marked, finished, flipped, begun, atomic};
 
 // An item that is traversed once more: a thread without its hook. The main thread was followed before.
 fn again_item(w: &mut [u32], b: &[u8], l: Lay, x: Item)
@@ -96,7 +86,7 @@ fn flip(w: &mut [u32], b: &[u8], l: Lay)
     ensures { λ _. ⌜ now (w .exit) ≡ flipped l (now (b .entry)) (now (w .entry)) ⌝ }
 {
     let old = base::get(w, layout::WHITE);
-    let white = other_white(old);
+    let white = mark::other_white(old);
     base::put(w, layout::WHITE, white);
     clearing::clear_weak_tables(w, b, l, old, white);
 }

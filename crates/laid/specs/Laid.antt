@@ -1,7 +1,7 @@
 -- A layout that was planned, and what it gives in words that are long enough. Assumes nothing.
 use mathlib.Core.Path.{_≡_}
 use mathlib.Core.List.{List as Words}
-use Prim.Native.Nat.{ℕ, _≤_}
+use Prim.Native.Nat.{ℕ, _*_, _≤_}
 use native.Mathlib.Omega.{arith}
 use lib.ListN.{length}
 use Rattle.arena.specs.Slots.{Room}
@@ -70,8 +70,12 @@ module _ (l : Lay) (w : Words ℕ) (ok : Laid l) (long : l .words ≤ length w) 
   unfolding Laid
   header-room = omega (arith, ok .header)
 
--- the words of each record
+-- the bytes of all texts, and the words of each record
 module _ (l : Lay) (ok : Laid l) where
+  pub text-bytes : 64 * l .strings .slots ≤ l .bytes
+  unfolding Laid
+  text-bytes = omega (arith, ok .strings .bytes)
+
   pub table-words : l .tables .stride ≡ 580
   unfolding Laid
   table-words = ok .tables .stride

@@ -5,6 +5,7 @@ use mathlib.Core.Bool.{Bool, true, cond}
 use mathlib.Core.List.{List}
 use Prim.Native.Nat.{ℕ}
 use lib.Dec.{eqb}
+use Rattle.base.specs.Ways.{ifEq}
 use Rattle.lists.specs.declared.Item.{Item}
 use Rattle.lists.specs.declared.Popped.{Popped}
 use Rattle.value.specs.declared.StrRef.{StrRef}
@@ -58,3 +59,6 @@ pub record Ops (S : Type 0) : Type 0 where
 -- Colours 1 and 2 are the whites.
 unfoldable pub isWhite : ℕ → Bool
 isWhite c = cond (eqb c 1) true (eqb c 2)
+
+abbrev pub otherWhite : ℕ → ℕ
+otherWhite c = ifEq c 1 2 1

@@ -19,7 +19,7 @@ ghost use lib.ListN.{length};
 ghost use Rattle.arena.specs.Slots.{Room};
 ghost use Rattle.lists.specs.Lists.{RoomFor};
 ghost use Rattle.value.specs.Values.{isNil, valueOf, valueAt};
-ghost use Rattle.mark.specs.Ops.{isWhite};
+ghost use Rattle.mark.specs.Ops.{isWhite, otherWhite};
 ghost use Rattle.mark.specs.Words.{shade, grayed, ops};
 ghost use Rattle.laid.specs.Laid.{Laid};
 ghost use Rattle.mark.specs.Marking.{markString, markTable, markTableOr, markClosure, markThread, followUserdata, markUserdata, followUpvalue, markUpvalue, valueColour, markValue, markValueAt, markValues, markUpvalueAt, markUpvalues};
@@ -46,6 +46,16 @@ pub fn is_white(c: u32) -> bool
         return true;
     }
     c == 2
+}
+
+// The white that is not this one.
+pub fn other_white(c: u32) -> u32
+    ensures { λ r. ⌜ r ≡ otherWhite c ⌝ }
+{
+    if c == 1 {
+        return 2;
+    }
+    1
 }
 
 // What is white becomes gray and is listed.

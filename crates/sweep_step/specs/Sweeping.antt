@@ -11,12 +11,9 @@ use Rattle.arena.specs.declared.Swept.{Swept}
 use Rattle.arena.specs.Slots.{sweepPartial}
 use Rattle.layout.specs.declared.Lay.{Lay}
 use Rattle.layout.specs.Places.{PHASE, WHITE, TOTAL, ESTIMATE}
+use Rattle.mark.specs.Ops.{otherWhite}
 use Rattle.sweep_step.specs.declared.SweepCursor.{SweepCursor}
 use Rattle.sweep_step.specs.Cursor.{start, advanced, nextArena, cursorAt, putCursor}
-
--- Whites are 1 and 2.
-abbrev pub otherWhite : ℕ → ℕ
-otherWhite c = ifEq c 1 2 1
 
 -- A stored arena index past 4 is threads.
 unfoldable pub arenaAt : Lay → ℕ → Arena

@@ -10,7 +10,7 @@ ghost use Rattle.base.specs.Heap.{heap};
 ghost use Rattle.arena.specs.Slots.{Room, Wide};
 ghost use Rattle.laid.specs.Laid.{Laid};
 ghost use Rattle.sweep_step.specs.Cursor.{start, advanced, nextArena, cursorAt, putCursor};
-ghost use Rattle.sweep_step.specs.Sweeping.{otherWhite, arenaAt, sizeAt, taken, sweepArena, stringsMoved, sweepStrings, othersMoved, sweepOthers};
+ghost use Rattle.sweep_step.specs.Sweeping.{arenaAt, sizeAt, taken, sweepArena, stringsMoved, sweepStrings, othersMoved, sweepOthers};
 
 // Where a sweep goes on: the arena, of tables 0, closures 1, upvalues 2, userdata 3, threads 4, and the slot.
 pub struct SweepCursor {
@@ -69,16 +69,6 @@ pub fn write_cursor(w: &mut [u32], c: SweepCursor)
     base::put(w, layout::CURSOR_SLOT, c.slot_position);
 }
 
-// The white that is not this one.
-fn other_white(c: u32) -> u32
-    ensures { λ r. ⌜ r ≡ otherWhite c ⌝ }
-{
-    if c == 1 {
-        return 2;
-    }
-    1
-}
-
 // A stored arena index past 4 is threads.
 fn arena_at(l: Lay, k: u32) -> Arena
     ensures { λ r. ⌜ r ≡ arenaAt l k ⌝ }
@@ -125,7 +115,7 @@ fn sweep_arena(w: &mut [u32], b: &mut [u8], a: Arena, size: usize, from: u32) ->
     ensures small { λ r. ⌜ r .next < 2 ^ 32 ⌝ }
 {
     let white = base::get(w, layout::WHITE);
-    let dead = other_white(white);
+    let dead = mark::other_white(white);
     let s = arena::sweep_partial(w, b, a, dead, white, base::wide(from), 80);
     take_off(w, s.freed * size);
     s
