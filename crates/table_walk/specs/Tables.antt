@@ -27,7 +27,7 @@ module _ {S : Type 0} (O : Ops S) where
 
   module _ (l : Lay) where
     unfoldable pub markUnless : Bool → ℕ → S → S
-    markUnless weak p s = cond weak s (markValueAt O l p s)
+    markUnless weakly p s = cond weakly s (markValueAt O l p s)
 
     -- the node whose key is at q and its value at q + 3
     unfoldable pub markPair : Mode → ℕ → S → S
