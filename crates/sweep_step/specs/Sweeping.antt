@@ -48,16 +48,16 @@ moved f x = heap (f (x .0) (x .1 .words)) (x .1 .bytes)
 unfoldable pub sweepStrings : Lay → Heap → Heap
 sweepStrings l h =
     let c = cursorAt (h .words) in
-    moved (stringsMoved c) (sweepArena (l .strings) 48 (c .slot-position) h)
+    moved (stringsMoved c) (sweepArena (l .strings) 48 (c .«slot_position») h)
 
 -- After the last arena the cursor stays, and the phase is Finalize.
 unfoldable pub othersMoved : SweepCursor → Swept → List ℕ → List ℕ
 othersMoved c s w =
     cond (s .done)
-    (ifLt (c .arena-index) 4 (putCursor (nextArena c) w) (put PHASE 4 w))
+    (ifLt (c .«arena_index») 4 (putCursor (nextArena c) w) (put PHASE 4 w))
     (putCursor (advanced c (s .next)) w)
 
 unfoldable pub sweepOthers : Lay → Heap → Heap
 sweepOthers l h =
     let c = cursorAt (h .words) in
-    moved (othersMoved c) (sweepArena (arenaAt l (c .arena-index)) (sizeAt (c .arena-index)) (c .slot-position) h)
+    moved (othersMoved c) (sweepArena (arenaAt l (c .«arena_index»)) (sizeAt (c .«arena_index»)) (c .«slot_position») h)

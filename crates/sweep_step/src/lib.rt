@@ -41,7 +41,7 @@ impl SweepCursor {
 
     // At the first slot of the next arena.
     pub fn next_arena(self) -> SweepCursor
-        requires { ⌜ self .arena_index < 4 ⌝ }
+        requires { ⌜ self .«arena_index» < 4 ⌝ }
         ensures { λ r. ⌜ r ≡ nextArena self ⌝ }
     {
         SweepCursor {
