@@ -10,8 +10,8 @@ use Rattle.base.specs.Heap.{Heap}
 use Rattle.value.specs.declared.Value.{Value}
 use Rattle.value.specs.declared.Value.the-variants.{Nil}
 use Rattle.value.specs.Values.{putValue}
-use Rattle.pace.specs.declared.Answer.{Answer}
-use Rattle.pace.specs.declared.Answer.the-variants.{Stepped, Unfinished, Ended, Passed, Handed, Busy, Failed, Refused}
+use Rattle.accounts.specs.declared.Answer.{Answer}
+use Rattle.accounts.specs.declared.Answer.the-variants.{Stepped, Unfinished, Ended, Passed, Handed, Busy, Failed, Refused}
 
 unfoldable pub six : ℕ → ℕ → ℕ → Value → List ℕ → List ℕ
 six kind x y v out =

@@ -1,6 +1,6 @@
 // The calls that step, for Rust or C to link: exported functions on numbers and slices only. The answer is a code, 0 or the
 // number of a refusal, and six words lent for the rest: which answer it is, then its numbers, 0 where there are none.
-use pace::Answer;
+use accounts::Answer;
 use value::Value;
 ghost use mathlib.Core.Path.{_≡_};
 ghost use Prim.Native.Nat.{_≤_, _<_};

@@ -15,9 +15,10 @@ use Rattle.pacing.specs.Pacing.{budgetOf, automaticBudget, finishThreshold}
 use Rattle.step.specs.declared.Single.{Single}
 use Rattle.step.specs.declared.Single.the-variants.{Cost, Out}
 use Rattle.step.specs.Step.{lowerEstimate, singleStep}
-use Rattle.pace.specs.declared.Answer.{Answer}
-use Rattle.pace.specs.declared.Answer.the-variants.{Stepped, Passed, Handed, Busy, Failed, Refused}
-use Rattle.pace.specs.Pace.{handed, takenBack, afterCost, onTurn, budgeted, fullFirst, fullSecond, gaveUp, grown, automatic, limited}
+use Rattle.accounts.specs.declared.Answer.{Answer}
+use Rattle.accounts.specs.declared.Answer.the-variants.{Stepped, Passed, Handed, Busy, Failed, Refused}
+use Rattle.accounts.specs.Accounts.{handed, takenBack, afterCost, grown, limited}
+use Rattle.pace.specs.Pace.{onTurn, budgeted, fullFirst, fullSecond, gaveUp, automatic}
 
 abbrev pub isOut : List ℕ → Bool
 isOut w = ltb 0 (at w INTERRUPTED)

@@ -3,8 +3,8 @@
 // check only tests the limit.
 use layout::Lay;
 use layout::Opened;
-use pace::Answer;
-use pace::Turn;
+use accounts::Answer;
+use accounts::Turn;
 use step::Single;
 ghost use mathlib.Core.Path.{_≡_};
 ghost use Prim.Native.Nat.{_≤_, _<_};
@@ -44,7 +44,7 @@ fn single_in(w: &mut [u32], b: &mut [u8], l: Lay) -> Answer
     match step::single_step(w, b, l) {
         Single::Cost(c) => Answer::Stepped(c),
         Single::Out(r, v) => {
-            pace::hand(w, pace::SINGLE, r, 0);
+            accounts::hand(w, accounts::SINGLE, r, 0);
             Answer::Handed(r, v)
         }
     }
@@ -59,7 +59,7 @@ fn budget_in(w: &mut [u32], b: &mut [u8], l: Lay, budget: u64) -> Answer
     if is_out(w) {
         return Answer::Busy;
     }
-    pace::budgeted(w, b, l, pace::BUDGETED, budget)
+    pace::budgeted(w, b, l, accounts::BUDGETED, budget)
 }
 
 fn auto_in(w: &mut [u32], b: &mut [u8], l: Lay) -> Answer
@@ -68,7 +68,7 @@ fn auto_in(w: &mut [u32], b: &mut [u8], l: Lay) -> Answer
     requires { ⌜ l .bytes ≤ length (now b) ⌝ }
     ensures { λ r. ⌜ (r, heap (now (w .exit)) (now (b .exit))) ≡ autoIn l (heap (now (w .entry)) (now (b .entry))) ⌝ }
 {
-    pace::grow_debt(w);
+    accounts::grow_debt(w);
     let stepmul = base::get(w, layout::STEPMUL);
     budget_in(w, b, l, pacing::automatic_budget(stepmul))
 }
@@ -91,10 +91,10 @@ fn check_in(w: &mut [u32], b: &mut [u8], l: Lay) -> Answer
     ensures { λ r. ⌜ (r, heap (now (w .exit)) (now (b .exit))) ≡ checkIn l (heap (now (w .entry)) (now (b .entry))) ⌝ }
 {
     if is_due(w) {
-        let a = pace::automatic(w, b, l, pace::CHECK);
-        return pace::limited(w, a);
+        let a = pace::automatic(w, b, l, accounts::CHECK);
+        return accounts::limited(w, a);
     }
-    pace::limited(w, Answer::Passed)
+    accounts::limited(w, Answer::Passed)
 }
 
 fn full_in(w: &mut [u32], b: &mut [u8], l: Lay) -> Answer
@@ -117,7 +117,7 @@ fn steps_on(w: &mut [u32], b: &mut [u8], l: Lay, kind: u32, left: u64) -> Answer
     requires { ⌜ l .bytes ≤ length (now b) ⌝ }
     ensures { λ r. ⌜ (r, heap (now (w .exit)) (now (b .exit))) ≡ stepsOn l kind left (heap (now (w .entry)) (now (b .entry))) ⌝ }
 {
-    match pace::after_cost(w, left, 100) {
+    match accounts::after_cost(w, left, 100) {
         Turn::Left(k) => pace::budgeted(w, b, l, kind, k),
         Turn::Over(a) => a,
     }
@@ -132,10 +132,10 @@ fn resume(w: &mut [u32], b: &mut [u8], l: Lay, kind: u32, left: u64) -> Answer
 {
     match kind {
         1 => Answer::Stepped(100),
-        2 => steps_on(w, b, l, pace::BUDGETED, left),
+        2 => steps_on(w, b, l, accounts::BUDGETED, left),
         3 => {
-            let a = steps_on(w, b, l, pace::CHECK, left);
-            pace::limited(w, a)
+            let a = steps_on(w, b, l, accounts::CHECK, left);
+            accounts::limited(w, a)
         }
         4 => pace::full_first(w, b, l),
         _ => pace::full_second(w, b, l),
@@ -164,7 +164,7 @@ fn finish_in(w: &mut [u32], b: &mut [u8], l: Lay, ok: bool) -> Answer
         return Answer::Refused(5);
     }
     let left = base::get64(w, layout::REMAINING);
-    pace::take_back(w);
+    accounts::take_back(w);
     if ok {
         succeed(w);
         return resume(w, b, l, kind, left);

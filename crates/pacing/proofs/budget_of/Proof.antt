@@ -1,8 +1,7 @@
 -- `pacing::budget_of` meets its contract. A signed test and a signed cast are read through `toZ w64 (ofZ w64 z)`, which is z; then by cases on z.
--- Assumes nothing.
 use mathlib.Core.Path.{_≡_, refl, sym, ap, subst, _∙_}
 use mathlib.Core.Bool.{true, false, true≢false}
-use Prim.Native.Nat.{ℕ, _<_}
+use Prim.Native.Nat.{_<_}
 use native.Mathlib.Omega.{arith}
 use borrow.Author.Tests.{ltb-true}
 use lib.Dec.{T}
@@ -14,6 +13,8 @@ use mir.ValLaws.{toZ-ofZ}
 use Rattle.pacing.specs.Pacing.{budgetOf}
 use Rattle.pacing.proofs.budget_of.Statement.{statement}
 use Rattle.pacing.proofs.budget_of.Tie as tie
+
+-- Assumes nothing.
 
 module _ (z : ℤ) (f : SFits w64 z) where
   same : toZ w64 (ofZ w64 z) ≡ z
