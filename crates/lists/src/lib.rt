@@ -9,7 +9,7 @@ ghost use mathlib.Core.Path.{_≡_};
 ghost use Prim.Native.Nat.{_+_, _*_, _≤_, _<_};
 ghost use lib.ListN.{length};
 ghost use Rattle.value.specs.Values.{put3};
-ghost use Rattle.lists.specs.Lists.{RoomFor, kindOf, indexOf, generationOf, itemOf, itemIn, putItem, lengthOf, setLength, itemAt, stored, push, taken, pop, cleared};
+ghost use Rattle.lists.specs.Lists.{RoomFor, kindOf, indexOf, generationOf, itemOf, itemIn, putItem, lengthOf, setLength, place, itemAt, stored, push, taken, pop, cleared};
 
 // What a list holds.
 pub enum Item {
@@ -140,6 +140,16 @@ fn store(w: &mut [u32], l: List, n: usize, x: Item)
     let p = l.base + 3 * n;
     write_item(w, p, x);
     set_length(w, l, n + 1);
+}
+
+// Item k is x.
+pub fn set_item(w: &mut [u32], l: List, k: usize, x: Item)
+    requires { ⌜ RoomFor l (now w) ⌝ }
+    requires { ⌜ k < l .room ⌝ }
+    ensures { λ _. ⌜ now (w .exit) ≡ putItem (place l k) x (now (w .entry)) ⌝ }
+{
+    let p = l.base + 3 * k;
+    write_item(w, p, x);
 }
 
 // A push onto a full list is left out and sets the damage mark.

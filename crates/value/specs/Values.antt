@@ -75,6 +75,9 @@ put3 p a b c w = put (p + 2) c (put (p + 1) b (put p a w))
 abbrev pub putValue : ℕ → Value → List ℕ → List ℕ
 putValue p v w = put3 p (tagOf v) (lowOf v) (highOf v) w
 
+abbrev pub isNil : Value → Bool
+isNil v = eqb (tagOf v) 0
+
 -- Keys are equal by kind and payload, stale handles too; numbers as numbers are.
 unfoldable pub payloadEqual : Value → Value → Bool
 payloadEqual a b = ifEq (lowOf a) (lowOf b) (eqb (highOf a) (highOf b)) false

@@ -5,7 +5,7 @@ ghost use Prim.Native.Nat.{_+_, _<_};
 ghost use lib.ListN.{length};
 ghost use Rattle.base.specs.Words.{put};
 ghost use Rattle.value.specs.Numbers.{isNaN, sameNumber};
-ghost use Rattle.value.specs.Values.{tagOf, wordOf, lowOf, highOf, bitsOf, valueOf, valueAt, put3, putValue, payloadEqual, keyEqual};
+ghost use Rattle.value.specs.Values.{isNil, tagOf, wordOf, lowOf, highOf, bitsOf, valueOf, valueAt, put3, putValue, payloadEqual, keyEqual};
 ghost use Rattle.value.specs.Handles.{handleOf, handleAt, putHandle, tableIn, tableOrAt, putTableOr, strIn, strOrAt, putStrOr};
 
 // A handle is an index and a generation. Each kind has its own, so that a string's never passes for a table's.
@@ -275,6 +275,12 @@ fn payload_equal(a: Value, b: Value) -> bool
         return false;
     }
     high_of(a) == high_of(b)
+}
+
+pub fn is_nil(v: Value) -> bool
+    ensures { λ r. ⌜ r ≡ isNil v ⌝ }
+{
+    tag_of(v) == 0
 }
 
 // Whether two values are one key.

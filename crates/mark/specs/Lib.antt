@@ -1,0 +1,4 @@
+pub mod Ops
+pub mod Words
+pub mod Marking
+pub mod Shades

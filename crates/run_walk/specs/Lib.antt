@@ -1,0 +1,4 @@
+pub mod Prototypes
+pub mod Closures
+pub mod Threads
+pub mod MainThread

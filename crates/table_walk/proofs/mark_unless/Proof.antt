@@ -1,0 +1,22 @@
+-- `table_walk::mark_unless` meets its contract: each way by its test. Assumes nothing.
+use borrow.Author.Needs.{needs}
+use Rattle.table_walk.specs.Tables.{markUnless}
+use Rattle.table_walk.proofs.mark_unless.Statement.{statement}
+use Rattle.table_walk.proofs.mark_unless.Tie as tie
+
+returns : tie.Need-returns
+unfolding markUnless
+returns c = rw (c .if1 .taken)
+
+mark-value-at-requires : tie.Need-mark-value-at-requires
+mark-value-at-requires c κs = search needs
+
+same-length : tie.Need-same-length
+same-length c = search needs
+
+returns-2 : tie.Need-returns-2
+unfolding markUnless
+returns-2 c = rw (c .before .before .before .before .if1 .left) (c .before .before .mark-value-at .ensures)
+
+pub mark-unless-spec : {M : Type 1} → statement M
+mark-unless-spec = tie.close (tie.spec returns mark-value-at-requires same-length returns-2)
