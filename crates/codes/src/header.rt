@@ -11,6 +11,7 @@ ghost use mathlib.Core.Path.{_≡_};
 ghost use Rattle.base.specs.Heap.{heap};
 ghost use Rattle.codes.specs.Header.{counterOf, askCounter, rootOf, askRoot, mainOf, askMain, whichOf, listedOf, askList, kindOf, slotsOf, askArena};
 
+// What a number asks, or that it asks nothing: one for each question.
 pub enum CounterOr {
     Unknown,
     Known(Counter),

@@ -18,6 +18,7 @@ ghost use mathlib.Core.Path.{_≡_};
 ghost use Rattle.base.specs.Heap.{heap};
 ghost use Rattle.codes.specs.Objects.{stringFieldOf, askString, tableFieldOf, askTable, closureFieldOf, askClosure, upvalueFieldOf, askUpvalue, userdataFieldOf, askUserdata, threadFieldOf, askThread, protoFieldOf, askProto};
 
+// What a number asks for, or that it asks for nothing: one for each kind of object.
 pub enum StringFieldOr {
     Unknown,
     Known(StringField),
