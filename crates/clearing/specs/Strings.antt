@@ -28,6 +28,7 @@ onTable work Main w = w
 onTable work Unknown w = w
 
 module _ (l : Lay) (white : ℕ) where
+  -- a string takes the white; a handle that names none, and any other value, does nothing
   unfoldable pub keepValue : List ℕ → Value → List ℕ
   keepValue w (value.Str s) = ifEq (shade (l .strings) (s .0) (s .1) w) 0 w (setColour (l .strings) (s .0) white w)
   keepValue w value.Nil = w
