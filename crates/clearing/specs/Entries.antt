@@ -13,8 +13,6 @@ use Rattle.value.specs.declared.Value.{Value}
 use Rattle.value.specs.declared.Value.the-variants as value
 use Rattle.value.specs.Values.{isNil, valueAt, put3}
 use Rattle.layout.specs.declared.Lay.{Lay}
-use Rattle.lists.specs.declared.Item.{Item}
-use Rattle.lists.specs.declared.Item.the-variants.{Table, Function, Userdata, Thread, Main, Unknown}
 use Rattle.lists.specs.Lists.{lengthOf, itemAt, cleared}
 use Rattle.record.specs.Fields.{bodyAt}
 use Rattle.record.specs.Tables.{tableMeta, arraySize, nodeCount}
@@ -22,7 +20,7 @@ use Rattle.record.specs.Userdata.{udFinalized}
 use Rattle.mark.specs.Words.{shade}
 use Rattle.modes.specs.declared.Mode.{Mode}
 use Rattle.modes.specs.Modes.{isWeak, weakMode}
-use Rattle.clearing.specs.Strings.{keepAll}
+use Rattle.clearing.specs.Strings.{onTable, keepAll}
 
 unfoldable pub isFinalized : Lay → UdRef → List ℕ → Bool
 isFinalized l r w = ifEq (shade (l .userdata) (r .0) (r .1) w) 0 false (udFinalized (bodyAt (l .userdata) (r .0)) w)
@@ -90,16 +88,8 @@ module _ (l : Lay) where
         ifEq (shade (l .tables) (r .0) (r .1) w) 0 w
         (cond (isWeak m) (clearEntries old m p w) w)
 
-    abbrev pub clearItem : ℕ → List ℕ → Item → List ℕ
-    clearItem old w (Table r) = clearTable old r w
-    clearItem old w (Function r) = w
-    clearItem old w (Userdata r) = w
-    clearItem old w (Thread r) = w
-    clearItem old w Main = w
-    clearItem old w Unknown = w
-
     unfoldable pub clearListed : ℕ → ℕ → List ℕ → List ℕ
-    clearListed old k w = clearItem old w (itemAt (l .weak) k w)
+    clearListed old k w = onTable (clearTable old) (itemAt (l .weak) k w) w
 
     unfoldable pub clearAll : ℕ → List ℕ → List ℕ
     clearAll old w = run (clearListed old) 0 (lengthOf (l .weak) w) w

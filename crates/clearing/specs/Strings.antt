@@ -18,8 +18,18 @@ use Rattle.record.specs.Fields.{bodyAt}
 use Rattle.record.specs.Tables.{arraySize, nodeCount}
 use Rattle.mark.specs.Words.{shade}
 
+-- A table that is listed is worked on; any other item is passed.
+unfoldable pub onTable : (TableRef → List ℕ → List ℕ) → Item → List ℕ → List ℕ
+onTable work (Table r) w = work r w
+onTable work (Function r) w = w
+onTable work (Userdata r) w = w
+onTable work (Thread r) w = w
+onTable work Main w = w
+onTable work Unknown w = w
+
 module _ (l : Lay) (white : ℕ) where
-  abbrev pub keepValue : List ℕ → Value → List ℕ
+  -- a string takes the white; a handle that names none, and any other value, does nothing
+  unfoldable pub keepValue : List ℕ → Value → List ℕ
   keepValue w (value.Str s) = ifEq (shade (l .strings) (s .0) (s .1) w) 0 w (setColour (l .strings) (s .0) white w)
   keepValue w value.Nil = w
   keepValue w (value.Boolean x) = w
@@ -55,16 +65,8 @@ module _ (l : Lay) (white : ℕ) where
       ifEq (shade (l .tables) (r .0) (r .1) w) 0 w
       (keepNodes (p + 4 + 3 * n) (nodeCount p w) (keepStrings (p + 4) n w))
 
-  abbrev pub keepItem : List ℕ → Item → List ℕ
-  keepItem w (Table r) = keepTable r w
-  keepItem w (Function r) = w
-  keepItem w (Userdata r) = w
-  keepItem w (Thread r) = w
-  keepItem w Main = w
-  keepItem w Unknown = w
-
   unfoldable pub keepListed : ℕ → List ℕ → List ℕ
-  keepListed k w = keepItem w (itemAt (l .weak) k w)
+  keepListed k w = onTable keepTable (itemAt (l .weak) k w) w
 
   unfoldable pub keepAll : List ℕ → List ℕ
   keepAll w = run keepListed 0 (lengthOf (l .weak) w) w

@@ -2,6 +2,7 @@
 -- skipped. Each number is walked once: `seen` has a 1 for those that were. Assumes nothing.
 use mathlib.Core.List.{List}
 use Prim.Native.Nat.{ℕ, zero, suc, _+_}
+use lib.ListN.{replicate}
 use Rattle.base.specs.Ways.{ifLt, ifLe, ifEq}
 use Rattle.base.specs.Loop.{run}
 use Rattle.base.specs.Words.{at, put}
@@ -9,6 +10,10 @@ use Rattle.layout.specs.declared.Lay.{Lay}
 use Rattle.main_record.specs.Prototypes.{protoAt, protoConstants, protoNested, protoChild}
 use Rattle.mark.specs.Ops.{Ops}
 use Rattle.mark.specs.Marking.{markValues}
+
+-- none was walked
+unfoldable pub zeros : ℕ → List ℕ
+zeros n = replicate n 0
 
 module _ {S : Type 0} (O : Ops S) (l : Lay) where
   unfoldable pub markConstants : ℕ → S → S
@@ -32,11 +37,6 @@ module _ {S : Type 0} (O : Ops S) (l : Lay) where
 
   unfoldable pub markProto : ℕ → S × List ℕ → S × List ℕ
   markProto n x = below (suc n) n x
-
-  -- none was walked
-  unfoldable pub zeros : ℕ → List ℕ
-  zeros zero = List.[]
-  zeros (suc n) = 0 List.∷ zeros n
 
   -- A number with no prototype has no constants. One with none nested is walked with no set.
   unfoldable pub markProtoConstants : ℕ → S → S

@@ -1,0 +1,105 @@
+-- `clearing::is_dead` meets its contract: each way by its test. Assumes nothing.
+use mathlib.Core.Path.{_≡_, refl, sym, _∙_}
+use mathlib.Core.Bool.{Bool, false}
+use mathlib.Core.List.{List, [], _∷_}
+use Prim.Native.Nat.{ℕ}
+use types.Run.{OneOf, miss}
+use denote.Enum.Declared.{tagOf}
+use borrow.Author.Needs.{needs}
+use Rattle.base.specs.Ways.{eq-yes, eq-no}
+use Rattle.value.specs.declared.Value.{Value}
+use Rattle.value.specs.declared.Value.the-variants.{Nil, Boolean, Light, Number, Str, Table, Function, Userdata, Thread}
+use Rattle.value.proofs.Value.{the-type}
+use Rattle.layout.specs.declared.Lay.{Lay}
+use Rattle.laid.specs.Laid.{tables-room, functions-room, userdata-room, threads-room}
+use Rattle.clearing.specs.Entries.{isDead}
+use Rattle.clearing.proofs.is_dead.Statement.{statement}
+use Rattle.clearing.proofs.is_dead.Tie as tie
+
+-- what is no table, function, userdata or thread is never dead
+plain-lives : (l : Lay) (old : ℕ) (key : Bool) (v : Value) (w : List ℕ) → OneOf (0 ∷ 1 ∷ 2 ∷ 3 ∷ 4 ∷ []) (tagOf the-type v) → false ≡ isDead l old key v w
+unfolding isDead
+plain-lives l old key Nil w k = refl
+plain-lives l old key (Boolean x) w k = refl
+plain-lives l old key (Light x) w k = refl
+plain-lives l old key (Number x) w k = refl
+plain-lives l old key (Str s) w k = refl
+plain-lives l old key (Table r) w k = absurd (miss (0 ∷ 1 ∷ 2 ∷ 3 ∷ 4 ∷ []) 5 tt k)
+plain-lives l old key (Function r) w k = absurd (miss (0 ∷ 1 ∷ 2 ∷ 3 ∷ 4 ∷ []) 6 tt k)
+plain-lives l old key (Userdata r) w k = absurd (miss (0 ∷ 1 ∷ 2 ∷ 3 ∷ 4 ∷ []) 7 tt k)
+plain-lives l old key (Thread r) w k = absurd (miss (0 ∷ 1 ∷ 2 ∷ 3 ∷ 4 ∷ []) 8 tt k)
+
+enum-known-v : tie.Need-enum-known-v
+enum-known-v c = search needs
+
+shade-requires : tie.Need-shade-requires
+shade-requires c κs = tables-room _ _ (c .before .before .before .before .pre .0) (c .before .before .before .before .pre .1)
+
+enum-known-v-2 : tie.Need-enum-known-v-2
+enum-known-v-2 c = search needs
+
+shade-requires-2 : tie.Need-shade-requires-2
+shade-requires-2 c κs = functions-room _ _ (c .before .before .before .before .pre .0) (c .before .before .before .before .pre .1)
+
+enum-known-v-3 : tie.Need-enum-known-v-3
+enum-known-v-3 c = search needs
+
+shade-requires-3 : tie.Need-shade-requires-3
+shade-requires-3 c κs = threads-room _ _ (c .before .before .before .before .pre .0) (c .before .before .before .before .pre .1)
+
+enum-known-v-4 : tie.Need-enum-known-v-4
+enum-known-v-4 c = search needs
+
+shade-requires-4 : tie.Need-shade-requires-4
+shade-requires-4 c κs = userdata-room _ _ (c .before .before .before .before .pre .0) (c .before .before .before .before .pre .1)
+
+returns : tie.Need-returns
+unfolding isDead
+returns c = rw (c .before .before .before .v4 .given .1) (eq-yes _ _ _ _ _ (sym (c .before .shade4 .ensures) ∙ c .if1 .taken) refl)
+
+returns-2 : tie.Need-returns-2
+unfolding isDead
+returns-2 c = rw (c .before .before .before .before .v4 .given .1) (eq-no _ _ _ _ _ (λ e. c .before .if1 .left (c .before .before .shade4 .ensures ∙ e)) (rw (c .if2 .taken)))
+
+is-finalized-requires : tie.Need-is-finalized-requires
+is-finalized-requires c κs = search needs
+
+returns-3 : tie.Need-returns-3
+unfolding isDead
+returns-3 c = rw (c .before .before .v .given .1, ← c .shade .ensures)
+
+returns-4 : tie.Need-returns-4
+unfolding isDead
+returns-4 c = rw (c .before .before .v2 .given .1, ← c .shade2 .ensures)
+
+returns-5 : tie.Need-returns-5
+unfolding isDead
+returns-5 c = rw (c .before .before .v3 .given .1, ← c .shade3 .ensures)
+
+returns-6 : tie.Need-returns-6
+unfolding isDead
+returns-6 c = rw (c .before .before .before .before .before .v4 .given .1) (eq-no _ _ _ _ _ (λ e. c .before .before .if1 .left (c .before .before .before .shade4 .ensures ∙ e)) (rw (c .before .if2 .left) (c .is-finalized .ensures)))
+
+returns-7 : tie.Need-returns-7
+returns-7 c = plain-lives _ _ _ _ _ (c .match .keys5)
+
+pub is-dead-spec : {M : Type 1} → statement M
+is-dead-spec =
+    tie.close
+    (tie.spec
+    enum-known-v
+    shade-requires
+    enum-known-v-2
+    shade-requires-2
+    enum-known-v-3
+    shade-requires-3
+    enum-known-v-4
+    shade-requires-4
+    returns
+    returns-2
+    is-finalized-requires
+    returns-3
+    returns-4
+    returns-5
+    returns-6
+    returns-7)

@@ -1,0 +1,26 @@
+-- `clearing::value_dies` meets its contract: the callees' equations joined. Assumes nothing.
+use borrow.Author.Needs.{needs}
+use Rattle.clearing.specs.Entries.{valueDies}
+use Rattle.clearing.proofs.value_dies.Statement.{statement}
+use Rattle.clearing.proofs.value_dies.Tie as tie
+
+add-read-value : tie.Need-add-read-value
+add-read-value c = search needs
+
+read-value-requires : tie.Need-read-value-requires
+read-value-requires c κs = search needs
+
+is-dead-requires : tie.Need-is-dead-requires
+is-dead-requires c κs = search needs
+
+returns : tie.Need-returns
+unfolding valueDies
+returns c = rw (c .before .before .if1 .taken, ← c .before .read-value .ensures) (c .is-dead .ensures)
+
+returns-2 : tie.Need-returns-2
+unfolding valueDies
+returns-2 c = rw (c .if1 .left)
+
+pub value-dies-spec : {M : Type 1} → statement M
+value-dies-spec =
+    tie.close (tie.spec add-read-value read-value-requires is-dead-requires returns returns-2)
