@@ -9,10 +9,6 @@ use oracle::{
     TableRef, ThreadRecord, UpvalRecord, UpvalRef, UserdataRecord, Value, WorkItem,
 };
 
-/// The tag of each type in the order in which the source keeps their metatables: nil, boolean,
-/// number, string, function, userdata, thread, table, light userdata.
-pub(crate) const TYPES: [usize; 9] = [0, 1, 3, 4, 6, 7, 8, 5, 2];
-
 struct Image {
     layout: Layout,
     heap: Words,
@@ -100,8 +96,8 @@ impl Image {
         self.put(header::HOOK, &value_words(main.hook));
         self.put(header::GLOBAL, &table_words(Some(main.global)));
         self.put(header::REGISTRY, &table_words(Some(main.registry)));
-        for (tag, table) in TYPES.into_iter().zip(&main.type_metatables) {
-            self.put(header::METATABLES + HANDLE * tag, &table_words(*table));
+        for (kind, table) in main.type_metatables.iter().enumerate() {
+            self.put(header::METATABLES + HANDLE * kind, &table_words(*table));
         }
         self.values(self.layout.stack, &main.stack);
         self.upvalues(self.layout.opens, &main.open);

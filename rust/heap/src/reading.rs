@@ -166,7 +166,7 @@ impl Reading<'_> {
             hook: value(ask(Main::Hook))?,
             global: root(self.0.root(Root::Global, 0))?,
             registry: root(self.0.root(Root::Registry, 0))?,
-            type_metatables: crate::image::TYPES.map(|tag| types[tag]).to_vec(),
+            type_metatables: types,
         })
     }
 
