@@ -4,7 +4,7 @@
 --     below-enough, proto-step                           any bound above a number walks it the same way
 --     nested-below, nested-skipped                       the two ways of a turn
 --     proto-seen, proto-walked                           the two ways of a walk
-use mathlib.Core.Path.{_≡_, refl, sym, ap, _∙_}
+use mathlib.Core.Path.{_≡_, refl, sym, _∙_}
 use mathlib.Core.List.{List}
 use Prim.Native.Nat.{ℕ, zero, suc, _≤_, _<_}
 use native.Mathlib.Decide.{decLt}

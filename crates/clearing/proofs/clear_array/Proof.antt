@@ -1,14 +1,13 @@
 -- `clearing::clear_array` meets its contract: the callees' equations joined. Assumes nothing.
-use borrow.Author.Needs.{needs}
 use Rattle.clearing.specs.Entries.{clearArray}
 use Rattle.clearing.proofs.clear_array.Statement.{statement}
 use Rattle.clearing.proofs.clear_array.Tie as tie
 
 clear-values-requires : tie.Need-clear-values-requires
-clear-values-requires c κs = search needs
+clear-values-requires c κs = c .before .before .before .pre
 
 same-length : tie.Need-same-length
-same-length c = search needs
+same-length c = c .before .before .clear-values .kept .0
 
 returns : tie.Need-returns
 unfolding clearArray

@@ -1,35 +1,36 @@
 -- `clearing::clear_entries` meets its contract: the callees' equations joined. Assumes nothing.
-use borrow.Author.Needs.{needs}
+use mathlib.Core.Path.{_∙_}
+use native.Mathlib.Omega.{arith}
 use Rattle.clearing.specs.Entries.{clearEntries}
 use Rattle.clearing.proofs.clear_entries.Statement.{statement}
 use Rattle.clearing.proofs.clear_entries.Tie as tie
 
 array-size-requires : tie.Need-array-size-requires
-array-size-requires c κs = search needs
+array-size-requires c κs = c .before .before .pre .1 .1
 
 node-count-requires : tie.Need-node-count-requires
-node-count-requires c κs = search needs
+node-count-requires c κs = c .before .before .before .before .pre .1 .1
 
 add-clear-array : tie.Need-add-clear-array
-add-clear-array c = search needs
+add-clear-array c = omega arith
 
 clear-array-requires : tie.Need-clear-array-requires
-clear-array-requires c κs = search needs
+clear-array-requires c κs = (c .before .before .before .before .before .before .pre .0, (c .before .before .before .before .before .before .pre .1 .0, omega (arith, c .before .before .before .before .before .before .pre .1 .1, c .before .before .before .array-size .ensures .1)))
 
 add-clear-nodes : tie.Need-add-clear-nodes
-add-clear-nodes c = search needs
+add-clear-nodes c = omega arith
 
 mul-clear-nodes : tie.Need-mul-clear-nodes
-mul-clear-nodes c = search needs
+mul-clear-nodes c = omega (arith, c .before .before .before .before .before .before .before .array-size .ensures .1)
 
 add-clear-nodes-2 : tie.Need-add-clear-nodes-2
-add-clear-nodes-2 c = search needs
+add-clear-nodes-2 c = omega (arith, c .before .before .before .before .before .before .before .array-size .ensures .1)
 
 clear-nodes-requires : tie.Need-clear-nodes-requires
-clear-nodes-requires c κs = search needs
+clear-nodes-requires c κs = (c .before .before .before .before .before .before .before .before .before .before .pre .0, (omega (arith, c .before .before .before .before .before .before .before .before .before .before .pre .1 .0, c .before .before .before .clear-array .kept .0), omega (arith, c .before .before .before .before .before .before .before .before .before .before .pre .1 .1, c .before .before .before .before .before .before .before .array-size .ensures .1, c .before .before .before .before .before .node-count .ensures .1, c .before .before .before .clear-array .kept .0)))
 
 same-length : tie.Need-same-length
-same-length c = search needs
+same-length c = c .before .before .clear-nodes .kept .0 ∙ c .before .before .before .before .before .before .clear-array .kept .0
 
 returns : tie.Need-returns
 unfolding clearEntries

@@ -13,7 +13,7 @@ shade-requires : tie.Need-shade-requires
 shade-requires c κs = tables-room _ _ (c .before .before .before .pre .0) (c .before .before .before .pre .1 .0)
 
 same-length : tie.Need-same-length
-same-length c = search needs
+same-length c = refl
 
 returns : tie.Need-returns
 unfolding clearTable
@@ -29,7 +29,7 @@ table-meta-requires : tie.Need-table-meta-requires
 table-meta-requires c κs = rw (table-words _ (c .before .before .before .before .before .before .before .before .before .pre .0)) at (c .before .body-of .ensures .1)
 
 check-weak-mode-requires : tie.Need-check-weak-mode-requires
-check-weak-mode-requires c κs = search needs
+check-weak-mode-requires c κs = c .before .before .before .before .before .before .before .before .before .before .before .pre
 
 is-weak-requires : tie.Need-is-weak-requires
 is-weak-requires c κs = search needs
@@ -38,14 +38,14 @@ clear-entries-requires : tie.Need-clear-entries-requires
 clear-entries-requires c κs = (c .before .before .before .before .before .before .before .before .before .before .before .before .before .before .before .pre .0, (c .before .before .before .before .before .before .before .before .before .before .before .before .before .before .before .pre .1 .0, rw (table-words _ (c .before .before .before .before .before .before .before .before .before .before .before .before .before .before .before .pre .0)) at (c .before .before .before .before .before .before .before .body-of .ensures .1)))
 
 same-length-2 : tie.Need-same-length-2
-same-length-2 c = search needs
+same-length-2 c = c .before .before .clear-entries .kept .0
 
 returns-2 : tie.Need-returns-2
 unfolding clearTable
 returns-2 c = eq-no _ _ _ _ _ (λ e. c .before .before .before .before .before .before .before .before .before .before .before .before .before .if1 .left (c .before .before .before .before .before .before .before .before .before .before .before .before .before .before .shade .ensures ∙ e)) (rw (← c .before .before .before .before .before .before .before .before .before .before .before .wide .ensures .0, ← c .before .before .before .before .before .before .before .before .before .before .body-of .ensures .0, ← c .before .before .before .before .before .before .before .before .table-meta .ensures, ← c .before .before .before .before .before .before .check-weak-mode .ensures, ← c .before .before .before .before .before .is-weak .ensures, c .before .before .before .before .if2 .taken) (c .before .before .clear-entries .ensures))
 
 same-length-3 : tie.Need-same-length-3
-same-length-3 c = search needs
+same-length-3 c = refl
 
 returns-3 : tie.Need-returns-3
 unfolding clearTable

@@ -62,7 +62,7 @@ unfolding isDead
 returns-2 c = rw (c .before .before .before .before .v4 .given .1) (eq-no _ _ _ _ _ (λ e. c .before .if1 .left (c .before .before .shade4 .ensures ∙ e)) (rw (c .if2 .taken)))
 
 is-finalized-requires : tie.Need-is-finalized-requires
-is-finalized-requires c κs = search needs
+is-finalized-requires c κs = c .before .before .before .before .before .before .before .pre
 
 returns-3 : tie.Need-returns-3
 unfolding isDead

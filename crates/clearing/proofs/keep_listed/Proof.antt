@@ -1,4 +1,5 @@
 -- `clearing::keep_listed` meets its contract: the callees' equations joined. Assumes nothing.
+use mathlib.Core.Path.{refl}
 use borrow.Author.Needs.{needs}
 use Rattle.laid.specs.Laid.{weak-room}
 use Rattle.clearing.specs.Strings.{onTable, keepListed}
@@ -13,17 +14,17 @@ enum-known-r : tie.Need-enum-known-r
 enum-known-r c = search needs
 
 keep-table-requires : tie.Need-keep-table-requires
-keep-table-requires c κs = search needs
+keep-table-requires c κs = c .before .before .before .before .before .before .before .pre
 
 same-length : tie.Need-same-length
-same-length c = search needs
+same-length c = c .before .before .keep-table .kept .0
 
 returns : tie.Need-returns
 unfolding onTable keepListed
 returns c = rw (← c .before .before .before .before .before .before .before .item-at .ensures, c .before .before .before .before .before .r .given .1) (c .before .before .keep-table .ensures)
 
 same-length-2 : tie.Need-same-length-2
-same-length-2 c = search needs
+same-length-2 c = refl
 
 returns-2 : tie.Need-returns-2
 unfolding keepListed

@@ -1,30 +1,31 @@
 -- `clearing::keep_node` meets its contract: the callees' equations joined. Assumes nothing.
-use borrow.Author.Needs.{needs}
+use mathlib.Core.Path.{refl, _∙_}
+use native.Mathlib.Omega.{arith}
 use Rattle.clearing.specs.Strings.{keepNode}
 use Rattle.clearing.proofs.keep_node.Statement.{statement}
 use Rattle.clearing.proofs.keep_node.Tie as tie
 
 is-nil-at-requires : tie.Need-is-nil-at-requires
-is-nil-at-requires c κs = search needs
+is-nil-at-requires c κs = omega (arith, c .before .before .pre .1 .1)
 
 same-length : tie.Need-same-length
-same-length c = search needs
+same-length c = refl
 
 returns : tie.Need-returns
 unfolding keepNode
 returns c = rw (← c .before .is-nil-at .ensures, c .if1 .taken)
 
 keep-string-requires : tie.Need-keep-string-requires
-keep-string-requires c κs = search needs
+keep-string-requires c κs = (c .before .before .before .before .before .pre .0, (c .before .before .before .before .before .pre .1 .0, omega (arith, c .before .before .before .before .before .pre .1 .1)))
 
 add-keep-string : tie.Need-add-keep-string
-add-keep-string c = search needs
+add-keep-string c = omega arith
 
 keep-string-requires-2 : tie.Need-keep-string-requires-2
-keep-string-requires-2 c κs = search needs
+keep-string-requires-2 c κs = (c .before .before .before .before .before .before .before .before .before .pre .0, (omega (arith, c .before .before .before .before .before .before .before .before .before .pre .1 .0, c .before .before .before .keep-string .kept .0), omega (arith, c .before .before .before .before .before .before .before .before .before .pre .1 .1, c .before .before .before .keep-string .kept .0)))
 
 same-length-2 : tie.Need-same-length-2
-same-length-2 c = search needs
+same-length-2 c = c .before .before .keep-string2 .kept .0 ∙ c .before .before .before .before .before .before .keep-string .kept .0
 
 returns-2 : tie.Need-returns-2
 unfolding keepNode

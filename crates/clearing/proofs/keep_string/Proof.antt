@@ -31,7 +31,7 @@ plain-kept l white w (Userdata r) k = refl
 plain-kept l white w (Thread r) k = refl
 
 read-value-requires : tie.Need-read-value-requires
-read-value-requires c κs = search needs
+read-value-requires c κs = c .before .before .pre .1 .1
 
 enum-known-s : tie.Need-enum-known-s
 enum-known-s c = search needs
@@ -40,7 +40,7 @@ shade-requires : tie.Need-shade-requires
 shade-requires c κs = strings-room _ _ (c .before .before .before .before .before .before .before .pre .0) (c .before .before .before .before .before .before .before .pre .1 .0)
 
 same-length : tie.Need-same-length
-same-length c = search needs
+same-length c = refl
 
 returns : tie.Need-returns
 unfolding keepString keepValue
@@ -53,14 +53,14 @@ set-colour-requires : tie.Need-set-colour-requires
 set-colour-requires c κs = (strings-room _ _ (c .before .before .before .before .before .before .before .before .before .before .before .pre .0) (c .before .before .before .before .before .before .before .before .before .before .before .pre .1 .0), omega (arith, c .wide .ensures .0, named-in _ _ _ _ (c .before .before .before .shade .ensures) (c .before .before .if1 .left)))
 
 same-length-2 : tie.Need-same-length-2
-same-length-2 c = search needs
+same-length-2 c = c .before .before .set-colour .kept .0
 
 returns-2 : tie.Need-returns-2
 unfolding keepString keepValue
 returns-2 c = rw (← c .before .before .before .before .before .before .before .before .before .before .before .read-value .ensures, c .before .before .before .before .before .before .before .before .before .s .given .1) (eq-no _ _ _ _ _ (λ e. c .before .before .before .before .before .if1 .left (c .before .before .before .before .before .before .shade .ensures ∙ e)) (rw (← c .before .before .before .wide .ensures .0) (c .before .before .set-colour .ensures)))
 
 same-length-3 : tie.Need-same-length-3
-same-length-3 c = search needs
+same-length-3 c = refl
 
 returns-3 : tie.Need-returns-3
 unfolding keepString

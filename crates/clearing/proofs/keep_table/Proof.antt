@@ -13,7 +13,7 @@ shade-requires : tie.Need-shade-requires
 shade-requires c κs = tables-room _ _ (c .before .before .pre .0) (c .before .before .pre .1)
 
 same-length : tie.Need-same-length
-same-length c = search needs
+same-length c = refl
 
 returns : tie.Need-returns
 unfolding keepTable
@@ -32,25 +32,25 @@ node-count-requires : tie.Need-node-count-requires
 node-count-requires c κs = rw (table-words _ (c .before .before .before .before .before .before .before .before .before .before .pre .0)) at (c .before .before .before .body-of .ensures .1)
 
 add-keep-strings : tie.Need-add-keep-strings
-add-keep-strings c = search needs
+add-keep-strings c = omega arith
 
 keep-strings-requires : tie.Need-keep-strings-requires
 keep-strings-requires c κs = (c .before .before .before .before .before .before .before .before .before .before .before .before .pre .0, (omega (arith, c .before .before .before .before .before .before .before .before .before .before .before .before .pre .1), omega (arith, table-words _ (c .before .before .before .before .before .before .before .before .before .before .before .before .pre .0), c .before .before .before .before .before .body-of .ensures .1, c .before .before .before .array-size .ensures .1)))
 
 add-keep-nodes : tie.Need-add-keep-nodes
-add-keep-nodes c = search needs
+add-keep-nodes c = omega arith
 
 mul-keep-nodes : tie.Need-mul-keep-nodes
-mul-keep-nodes c = search needs
+mul-keep-nodes c = omega (arith, c .before .before .before .before .before .before .before .array-size .ensures .1)
 
 add-keep-nodes-2 : tie.Need-add-keep-nodes-2
-add-keep-nodes-2 c = search needs
+add-keep-nodes-2 c = omega (arith, c .before .before .before .before .before .before .before .array-size .ensures .1)
 
 keep-nodes-requires : tie.Need-keep-nodes-requires
 keep-nodes-requires c κs = (c .before .before .before .before .before .before .before .before .before .before .before .before .before .before .before .before .pre .0, (omega (arith, c .before .before .before .before .before .before .before .before .before .before .before .before .before .before .before .before .pre .1, c .before .before .before .keep-strings .kept .0), omega (arith, table-words _ (c .before .before .before .before .before .before .before .before .before .before .before .before .before .before .before .before .pre .0), c .before .before .before .before .before .before .before .before .before .body-of .ensures .1, c .before .before .before .before .before .before .before .array-size .ensures .1, c .before .before .before .before .before .node-count .ensures .1, c .before .before .before .keep-strings .kept .0)))
 
 same-length-2 : tie.Need-same-length-2
-same-length-2 c = search needs
+same-length-2 c = c .before .before .keep-nodes .kept .0 ∙ c .before .before .before .before .before .before .keep-strings .kept .0
 
 returns-2 : tie.Need-returns-2
 unfolding keepTable

@@ -1,17 +1,17 @@
 -- `clearing::value_dies` meets its contract: the callees' equations joined. Assumes nothing.
-use borrow.Author.Needs.{needs}
+use native.Mathlib.Omega.{arith}
 use Rattle.clearing.specs.Entries.{valueDies}
 use Rattle.clearing.proofs.value_dies.Statement.{statement}
 use Rattle.clearing.proofs.value_dies.Tie as tie
 
 add-read-value : tie.Need-add-read-value
-add-read-value c = search needs
+add-read-value c = omega arith
 
 read-value-requires : tie.Need-read-value-requires
-read-value-requires c κs = search needs
+read-value-requires c κs = omega (arith, c .before .before .pre .1 .1)
 
 is-dead-requires : tie.Need-is-dead-requires
-is-dead-requires c κs = search needs
+is-dead-requires c κs = (c .before .before .before .pre .0, c .before .before .before .pre .1 .0)
 
 returns : tie.Need-returns
 unfolding valueDies

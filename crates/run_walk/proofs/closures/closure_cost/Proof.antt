@@ -1,4 +1,4 @@
--- `run_walk::closures::closure_cost` meets its contract: the callees' equations joined. Assumes nothing.
+-- `run_walk::closures::closure_cost` meets its contract: each way by its test. Assumes nothing.
 use native.Mathlib.Omega.{arith}
 use Rattle.run_walk.specs.Closures.{closureCost}
 use Rattle.run_walk.proofs.closures.closure_cost.Statement.{statement}

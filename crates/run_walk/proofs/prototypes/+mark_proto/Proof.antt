@@ -130,7 +130,7 @@ mark-proto-mark-proto-requires : (t : ℕ) → mark-proto-lts.Need-mark-proto-re
   mark-proto-below t,
   mark-proto.Post,
 ) (mark-proto-at t) mark-proto.Post mark-proto-Inv-loop mark-proto-μ-loop
-mark-proto-mark-proto-requires t c κs = (rw (← c .before .before .before .before .before .before .before .before .before .before .before .before .before .before .before .before .before .pre .0) (c .before .before .if2 .taken), (c .before .before .before .before .before .before .before .before .before .before .before .before .before .before .before .before .before .pre .1 .0, (omega (arith, c .before .before .before .before .before .before .before .before .before .before .before .before .before .before .before .before .before .pre .1 .1 .0, c .before .before .before .before .before .before .before .before .before .before .before .mark-constants .kept .0, c .before .before .before .before .before .before .loop .inv .long), (omega (arith, c .before .before .before .before .before .before .before .before .before .before .before .before .before .before .before .before .before .pre .1 .1 .1 .0, c .before .before .if2 .taken), omega (arith, c .before .before .before .before .before .before .before .before .before .before .before .before .before .before .before .before .before .pre .1 .1 .1 .1, c .before .before .before .before .before .before .loop .inv .full, length-set (c .before .before .before .before .before .before .before .before .before .before .before .before .before .before .before .before .before .args .seen .now) (c .before .before .before .before .before .before .before .before .before .before .before .before .before .before .before .before .before .args .n) 1)))))
+mark-proto-mark-proto-requires t c κs = (rw (← c .before .before .before .before .before .before .before .before .before .before .before .before .before .before .before .before .before .pre .0) (c .before .before .if2 .taken), (c .before .before .before .before .before .before .before .before .before .before .before .before .before .before .before .before .before .pre .1 .0, (omega (arith, c .before .before .before .before .before .before .before .before .before .before .before .before .before .before .before .before .before .pre .1 .1 .0, c .before .before .before .before .before .before .before .before .before .before .before .mark-constants .kept .0, c .before .before .before .before .before .before .loop .inv .long), (omega (arith, c .before .before .before .before .before .before .before .before .before .before .before .before .before .before .before .before .before .pre .1 .1 .1 .0, c .before .before .if2 .taken), omega (arith, c .before .before .before .before .before .before .before .before .before .before .before .before .before .before .before .before .before .pre .1 .1 .1 .1, rw length-set at (c .before .before .before .before .before .before .loop .inv .full))))))
 
 mark-proto-add-j : (t : ℕ) → mark-proto-lts.Need-add-j (
   mark-constants-reads.Asked,
@@ -190,7 +190,7 @@ mark-proto-same-length-2 : (t : ℕ) → mark-proto-lts.Need-same-length-2 (
   mark-proto-below t,
   mark-proto.Post,
 ) (mark-proto-at t) mark-proto.Post mark-proto-Inv-loop mark-proto-μ-loop
-mark-proto-same-length-2 t c = c .before .loop .inv .full ∙ length-set (c .before .before .before .before .before .before .before .before .before .before .before .before .args .seen .now) (c .before .before .before .before .before .before .before .before .before .before .before .before .args .n) 1
+mark-proto-same-length-2 t c = rw length-set at (c .before .loop .inv .full)
 
 mark-proto-returns-2 : (t : ℕ) → mark-proto-lts.Need-returns-2 (
   mark-constants-reads.Asked,
