@@ -76,7 +76,11 @@ pub fn update_threshold(w: &mut [u32])
     let estimate = larger(base::get(w, layout::ESTIMATE), total);
     let pause = base::get(w, layout::PAUSE);
     base::put(w, layout::TOTAL, total);
-    base::put64(w, layout::THRESHOLD, pacing::cycle_threshold(estimate, pause));
+    base::put64(
+        w,
+        layout::THRESHOLD,
+        pacing::cycle_threshold(estimate, pause),
+    );
 }
 
 fn larger(x: u32, y: u32) -> u32

@@ -101,8 +101,8 @@ module _ (w : List ℕ) where
     closureLinks p =
         tableLink (closureEnv p w)
         ++ cond (isRust p w)
-           (each (λ i. valueLinks (closureValue p i w)) (closureCount p w) 0)
-           (each (λ i. upval (closureUpvalue p i w) ∷ []) (closureCount p w) 0 ++ protoLinks (closureProto p w))
+        (each (λ i. valueLinks (closureValue p i w)) (closureCount p w) 0)
+        (each (λ i. upval (closureUpvalue p i w) ∷ []) (closureCount p w) 0 ++ protoLinks (closureProto p w))
 
     -- Roots: main stack below top, open upvalues, error value, hook function, and the stack value at the function index of
     -- each frame up to `ci`, also above top; ..
