@@ -46,6 +46,29 @@ impl fmt::Display for Spread {
     }
 }
 
+/// Prints a row with the times of one side, each the nanoseconds of a round.
+pub fn one(name: &str, who: &str, rounds: usize, mut work: impl FnMut() -> f64) {
+    let times = Spread::of((0..rounds).map(|_| work()).collect());
+    println!("{name:34} {who} {times}");
+}
+
+/// Prints a row with the times of both sides, taken in turns; the ratio is ours over the source's.
+pub fn row(
+    name: &str,
+    rounds: usize,
+    mut ours: impl FnMut() -> f64,
+    mut source: impl FnMut() -> f64,
+) {
+    let (mut a, mut b) = (Vec::new(), Vec::new());
+    for _ in 0..rounds {
+        a.push(ours());
+        b.push(source());
+    }
+    let (a, b) = (Spread::of(a), Spread::of(b));
+    let ratio = a.median / b.median;
+    println!("{name:34} ours {a}   source {b}   ratio {ratio:.2}");
+}
+
 /// How many rounds the command line asks for: its first word, else 21.
 #[must_use]
 pub fn rounds() -> usize {

@@ -6,7 +6,7 @@
 use oracle::slots::Slots;
 use slots::Ours;
 use std::hint::black_box;
-use timing::{Spread, timed};
+use timing::{row, timed};
 
 fn full(slots: u32, colour: u32) -> (Ours, Slots) {
     let (mut ours, mut source) = (Ours::new(slots as usize), Slots::new());
@@ -40,17 +40,6 @@ fn sweep_source(source: &mut Slots, dead: u32, white: u32) -> u32 {
             return freed;
         }
     }
-}
-
-fn row(name: &str, rounds: usize, mut ours: impl FnMut() -> f64, mut source: impl FnMut() -> f64) {
-    let (mut a, mut b) = (Vec::new(), Vec::new());
-    for _ in 0..rounds {
-        a.push(ours());
-        b.push(source());
-    }
-    let (a, b) = (Spread::of(a), Spread::of(b));
-    let ratio = a.median / b.median;
-    println!("{name:34} ours {a}   source {b}   ratio {ratio:.2}");
 }
 
 fn live_sweep(rounds: usize) {

@@ -1,0 +1,35 @@
+//! The steps of the proved collector beside the source's, word for word.
+//!
+//! [`words`] transcribes a heap of the oracle into the two buffers that ours has for it.
+//! [`compare`] makes each step of a driven oracle on them too, through an [`Engine`]: ours, or a
+//! [`StandIn`] as long as there is no library of the steps. [`heaps`] does so on random heaps and
+//! [`shrink`] makes short scripts of what differs; [`names`] says what a word is.
+//!
+//! The feature `engine_steps` links ours: `rt staticlib step_engine` at the repository's root, then
+//! `cargo run --offline --release -p steps --features engine_steps --bin compare_steps`.
+
+#![cfg_attr(not(feature = "engine_steps"), forbid(unsafe_code))]
+
+pub mod compare;
+pub mod engine;
+pub mod heaps;
+pub mod layout;
+pub mod names;
+#[cfg(feature = "engine_steps")]
+mod ours;
+pub mod shrink;
+mod standin;
+pub mod tally;
+pub mod words;
+
+pub use engine::Engine;
+pub use standin::StandIn;
+
+/// The engine of the static library, if it is linked (feature `engine_steps`).
+#[must_use]
+pub fn linked() -> Option<Box<dyn Engine>> {
+    #[cfg(feature = "engine_steps")]
+    return Some(Box::new(ours::Ours));
+    #[cfg(not(feature = "engine_steps"))]
+    return None;
+}
