@@ -106,10 +106,10 @@ fn one_of_each_kind() {
             (0, &[3, 3, 2, 2, 2, 1, 2, 2, 1, 2]),
             // Prototypes used, main top, open count, ci, error, hook.
             (10, &[2, 1, 1, 1, 4, 2, 0, 8, 0, 0]),
-            // Global, registry, both names; metatables of light userdata (2) and tables (5).
+            // Global, registry, both names; metatables of tables (7) and light userdata (8).
             (20, &[1, 0, 2, 0, 1, 0, 2, 0]),
-            (28 + 2 * 2, &[3, 0]),
-            (28 + 2 * 5, &[2, 0]),
+            (28 + 2 * 7, &[2, 0]),
+            (28 + 2 * 8, &[3, 0]),
             // Limit, pause, stepmul, next creation number.
             (46, &[4, 3, 150, 300, 2, 0]),
             // Propagate, the first white; total, peak, estimate, threshold, debt.
