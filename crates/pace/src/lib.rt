@@ -1,9 +1,9 @@
 // Budgeted and full collection with hand-out and finish (document 01, 'Steps and pacing'; the source's gc_step, full_gc,
 // gc_step_auto, gc_check, update_threshold). A finalizer that is handed out interrupts its call: the words keep what was
 // interrupted, the userdata and the remaining budget, and `finish` goes on with exactly that.
-use layout::Lay;
 use accounts::Answer;
 use accounts::Turn;
+use layout::Lay;
 use step::Single;
 use sweep_step::SweepCursor;
 use value::UdRef;
@@ -151,4 +151,3 @@ pub fn automatic(w: &mut [u32], b: &mut [u8], l: Lay, kind: u32) -> Answer
     let stepmul = base::get(w, layout::STEPMUL);
     budgeted(w, b, l, kind, pacing::automatic_budget(stepmul))
 }
-
