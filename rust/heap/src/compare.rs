@@ -1,9 +1,9 @@
 //! A new heap of ours held to the source's: every word and byte to the source's heap written out at
 //! our places, and every read to what the source has.
 
-use crate::image::image;
 use crate::ours::Words;
 use crate::reading::read;
+use crate::words::{Waiting, transcribed};
 use oracle::{Oracle, Sizes, Snapshot};
 
 /// The first place at which two buffers differ, as far as the second goes.
@@ -14,7 +14,7 @@ fn difference<T: Copy + PartialEq>(ours: &[T], source: &[T]) -> Option<usize> {
 
 /// Holds the two buffers to the snapshot written out.
 fn compared_words(heap: &Words, source: &Snapshot) -> Result<(), String> {
-    let image = image(source);
+    let image = transcribed(source, Waiting::default());
     if let Some(k) = difference(&heap.words, &image.words) {
         let (ours, source) = (heap.words.get(k), image.words.get(k));
         return Err(format!("word {k}: ours {ours:?}, the source's {source:?}"));

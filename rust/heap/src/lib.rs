@@ -1,20 +1,19 @@
 //! The proved heap, from the static library, beside the source's in one process.
 //!
 //! [`Words`] is a heap of ours in its two lent buffers; [`Layout`] says where everything lies in
-//! them, [`image`] writes a heap of the source's out at those places, [`read`] reads one of ours
+//! them, [`words`] writes a heap of the source's out at those places, [`read`] reads one of ours
 //! by the exported reads, and [`compared`] holds a new heap to what [`oracle::Oracle`] has.
 
 pub mod ask;
 mod compare;
-mod image;
-mod layout;
+pub mod layout;
 mod ours;
 pub mod programs;
 mod reading;
 pub mod sizes;
+pub mod words;
 
 pub use compare::{compared, compared_reads};
-pub use image::image;
 pub use layout::Layout;
 pub use ours::{Words, needed, needed_in};
 pub use proved::Refused;

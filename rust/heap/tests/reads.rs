@@ -5,7 +5,8 @@ mod common;
 
 use common::tried;
 use heap::sizes::SMALLEST;
-use heap::{Refused, Words, compared_reads, image, needed};
+use heap::words::{Waiting, transcribed};
+use heap::{Refused, Words, compared_reads, needed};
 use oracle::generate::{self, Generator};
 use oracle::{Oracle, Snapshot};
 use std::cell::RefCell;
@@ -27,7 +28,7 @@ fn heaps_of_scripts_are_read_back() {
         if source.out.is_some() {
             continue;
         }
-        let heap = image(&source);
+        let heap = transcribed(&source, Waiting::default());
         assert_eq!(compared_reads(&heap, &source), Ok(()), "seed {seed}");
         let counts = [
             source.strings.occupied as usize,

@@ -11,11 +11,11 @@
 //! show when the step goes on.
 
 use crate::engine::{Call, Engine, LENT, Told};
-use crate::layout::{Layout, header};
 use crate::names;
 use crate::tally::Tally;
-use crate::words::{Waiting, empty, transcribe};
 use heap::Words;
+use heap::layout::{Layout, header};
+use heap::words::{Waiting, empty, transcribe};
 use oracle::{Answer, Command, Driver, Oracle, Sizes, Step};
 use std::cell::RefCell;
 use std::fmt;

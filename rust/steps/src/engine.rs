@@ -1,7 +1,7 @@
 //! The six calls that make steps, whoever answers them.
 
-use crate::words::value;
 use heap::Words;
+use heap::words::value;
 use oracle::{Answer, Command, Refusal, Step};
 
 /// The words of an answer.

@@ -1,6 +1,6 @@
 //! The steps of the proved collector beside the source's, word for word.
 //!
-//! [`words`] transcribes a heap of the oracle into the two buffers that ours has for it.
+//! [`heap::words`] transcribes a heap of the oracle into the two buffers that ours has for it.
 //! [`compare`] makes each step of a driven oracle on them too, through an [`Engine`]: ours, or a
 //! [`StandIn`] as long as there is no library of the steps. [`heaps`] does so on random heaps and
 //! [`shrink`] makes short scripts of what differs; [`names`] says what a word is.
@@ -13,14 +13,12 @@
 pub mod compare;
 pub mod engine;
 pub mod heaps;
-pub mod layout;
 pub mod names;
 #[cfg(feature = "engine_steps")]
 mod ours;
 pub mod shrink;
 mod standin;
 pub mod tally;
-pub mod words;
 
 pub use engine::Engine;
 pub use standin::StandIn;

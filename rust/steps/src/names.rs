@@ -1,6 +1,6 @@
 //! What stands at each word and byte, by name, in the words of docs/LAYOUT.md.
 
-use crate::layout::{Arena, HANDLE, ITEM, Layout, PROTO, STRING, VALUE, header};
+use heap::layout::{Arena, HANDLE, ITEM, Layout, PROTO, STRING, VALUE, header};
 
 /// The parts of a field, one for each word.
 type Parts = &'static [&'static str];

@@ -3,8 +3,8 @@
 //! the engine.
 
 use crate::engine::{Call, Engine, OUT, Told};
-use crate::words::{Waiting, empty, transcribe};
 use heap::Words;
+use heap::words::{Waiting, empty, transcribe};
 use oracle::{Answer, Command, Driver, Oracle, Sizes, Snapshot, Step};
 use std::cell::RefCell;
 use std::rc::Rc;

@@ -3,10 +3,10 @@
 mod common;
 
 use common::{Fault, Faulty};
+use heap::layout::{Layout, header};
 use oracle::{Command, Sizes};
 use steps::engine::Call;
 use steps::heaps::{self, Report};
-use steps::layout::{Layout, header};
 use steps::shrink::{Shrunk, replayed};
 
 /// The report of a fault on the heaps of this seed and the next ones.

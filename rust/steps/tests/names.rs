@@ -1,14 +1,14 @@
 //! Every word has a name of its own, and those of the header are the ones that the program
 //! layout_print prints.
 
+use heap::layout::{Layout, header};
+use heap::words::{Waiting, transcribed};
 use oracle::generate::{self, Generator};
 use oracle::{Answer, Command, Driver, Oracle, Sizes};
 use std::cell::RefCell;
 use std::collections::HashSet;
 use std::rc::Rc;
-use steps::layout::{Layout, header};
 use steps::names;
-use steps::words::{Waiting, transcribed};
 
 const PRINTED: &str = include_str!("../../../crates/layout_print/stdout");
 

@@ -1,11 +1,11 @@
 //! The new heap that ours makes is the source's new heap, transcribed: every word and every byte.
 
 use heap::Words;
+use heap::layout::Layout;
 use heap::sizes::{RANGES, SMALLEST, within};
+use heap::words::{Waiting, transcribed};
 use oracle::random::Random;
 use oracle::{Oracle, Sizes};
-use steps::layout::Layout;
-use steps::words::{Waiting, transcribed};
 
 const SEED: u64 = 21;
 

@@ -1,8 +1,8 @@
 //! The layout that Rust computes is the one that the program layout_print prints, place by place.
 
+use heap::layout::{HANDLE, ITEM, Layout, PROTO, VALUE};
 use heap::sizes::{RANGES, SMALLEST};
 use oracle::Sizes;
-use steps::layout::{HANDLE, ITEM, Layout, PROTO, VALUE};
 
 const PRINTED: &str = include_str!("../../../crates/layout_print/stdout");
 

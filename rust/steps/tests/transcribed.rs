@@ -1,12 +1,12 @@
 //! Heaps transcribed, held to words that were written down by hand from docs/LAYOUT.md.
 
+use heap::words::{Waiting, transcribed};
 use oracle::{
     Answer, Command, Driver, FuncRef, Oracle, Phase, Sizes, StrRef, TableRef, ThreadRef, UdRef,
     UpvalRef, Value,
 };
 use std::cell::RefCell;
 use std::rc::Rc;
-use steps::words::{Waiting, transcribed};
 
 fn heap(sizes: [u32; 10]) -> Oracle {
     Oracle::new(Sizes::from(sizes)).expect("sizes in range")

@@ -23,6 +23,7 @@ const READS: [Read; 14] = [
 ];
 
 /// A question: whether its number is one that asks something, the answer, and its words after it.
+#[allow(dead_code, reason = "each test file reads a part of it")]
 pub struct Tried {
     pub known: bool,
     pub answer: Result<(), Refused>,

@@ -9,12 +9,12 @@
 //! call; a budgeted step or a full collection pays for that once.
 
 use heap::Words;
+use heap::layout::header;
+use heap::words::{Waiting, empty, phase, transcribed};
 use oracle::{Oracle, Phase, Sizes, Step, TableRef, Value};
 use std::hint::black_box;
 use steps::engine::{Call, Engine, OUT};
-use steps::layout::header;
 use steps::linked;
-use steps::words::{Waiting, empty, phase, transcribed};
 use timing::timed;
 
 const TABLES: u32 = 4096;

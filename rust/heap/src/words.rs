@@ -5,7 +5,7 @@
 mod records;
 
 use crate::layout::{Arena, HANDLE, Layout, List, PROTO, STRING, VALUE, header};
-use heap::Words;
+use crate::ours::Words;
 use oracle::{
     Colour, Counters, MainRecord, Phase, ProtoRecord, Slots, Snapshot, TableRef, UdRef, UpvalRef,
     Value, WorkItem,
