@@ -1,0 +1,82 @@
+// What a call is given to store must name what it says (document 01, row 2), and what a call that makes or changes something
+// answers. One place tests a handle, one a value.
+use arena::Arena;
+use arena::Named;
+use layout::Lay;
+use value::TableOr;
+use value::TableRef;
+use value::UpvalRef;
+use value::Value;
+ghost use mathlib.Core.Path.{_≡_};
+ghost use Prim.Native.Nat.{_≤_};
+ghost use lib.ListN.{length};
+ghost use Rattle.arena.specs.Slots.{Room};
+ghost use Rattle.laid.specs.Laid.{Laid};
+ghost use Rattle.given.specs.Given.{isNamed, isTable, isTableOr, isUpvalue, isSound};
+
+// What a call answers that changes something and has nothing to tell.
+pub enum Served {
+    Done,
+    Refused(u32),
+}
+
+// What a call answers that hands a value back.
+pub enum Got {
+    Value(Value),
+    Refused(u32),
+}
+
+// Whether a handle names an occupied slot.
+pub fn is_named(w: &[u32], a: Arena, index: u32, generation: u32) -> bool
+    requires { ⌜ Room a (now w) ⌝ }
+    ensures { λ r. ⌜ r ≡ isNamed a index generation (now (w .entry)) ⌝ }
+{
+    match arena::name_of(w, a, index, generation) {
+        Named::At(_) => true,
+        Named::Stale => false,
+    }
+}
+
+pub fn is_table(w: &[u32], l: Lay, r: TableRef) -> bool
+    requires { ⌜ Laid l ⌝ }
+    requires { ⌜ l .words ≤ length (now w) ⌝ }
+    ensures { λ b. ⌜ b ≡ isTable l r (now (w .entry)) ⌝ }
+{
+    is_named(w, l.tables, r.0, r.1)
+}
+
+pub fn is_upvalue(w: &[u32], l: Lay, r: UpvalRef) -> bool
+    requires { ⌜ Laid l ⌝ }
+    requires { ⌜ l .words ≤ length (now w) ⌝ }
+    ensures { λ b. ⌜ b ≡ isUpvalue l r (now (w .entry)) ⌝ }
+{
+    is_named(w, l.upvalues, r.0, r.1)
+}
+
+// A table that may be missing.
+pub fn is_table_or(w: &[u32], l: Lay, t: TableOr) -> bool
+    requires { ⌜ Laid l ⌝ }
+    requires { ⌜ l .words ≤ length (now w) ⌝ }
+    ensures { λ b. ⌜ b ≡ isTableOr l t (now (w .entry)) ⌝ }
+{
+    match t {
+        TableOr::Present(r) => is_table(w, l, r),
+        TableOr::Absent => true,
+    }
+}
+
+// A value that refers to an object names one; any other value is sound.
+pub fn is_sound(w: &[u32], l: Lay, v: Value) -> bool
+    requires { ⌜ Laid l ⌝ }
+    requires { ⌜ l .words ≤ length (now w) ⌝ }
+    ensures { λ b. ⌜ b ≡ isSound l v (now (w .entry)) ⌝ }
+{
+    match v {
+        Value::Str(r) => is_named(w, l.strings, r.0, r.1),
+        Value::Table(r) => is_named(w, l.tables, r.0, r.1),
+        Value::Function(r) => is_named(w, l.functions, r.0, r.1),
+        Value::Userdata(r) => is_named(w, l.userdata, r.0, r.1),
+        Value::Thread(r) => is_named(w, l.threads, r.0, r.1),
+        _ => true,
+    }
+}
