@@ -8,7 +8,7 @@ ghost use lib.ListN.{length};
 ghost use Rattle.laid.specs.Laid.{Laid};
 ghost use Rattle.atomic.specs.Atomic.{againItem, againListed, againAll, marked, finished, flipped, begun, atomic};
 
-// An item that is traversed once more: a thread without its hook. The main thread was followed before.
+// An item is traversed once more, a thread without its hook. The main thread was followed before.
 fn again_item(w: &mut [u32], b: &[u8], l: Lay, x: Item)
     requires { ⌜ Laid l ⌝ }
     requires { ⌜ l .words ≤ length (now w) ⌝ }
@@ -16,14 +16,10 @@ fn again_item(w: &mut [u32], b: &[u8], l: Lay, x: Item)
     ensures { λ _. ⌜ now (w .exit) ≡ againItem l (now (b .entry)) x (now (w .entry)) ⌝ }
 {
     match x {
-        Item::Table(r) => {
-            table_walk::traverse_table(w, b, l, r);
-        }
-        Item::Function(r) => {
-            run_walk::closures::traverse_closure(w, l, r);
-        }
         Item::Thread(r) => run_walk::threads::retraverse_thread(w, l, r),
-        _ => {}
+        _ => {
+            propagate::propagate_item(w, b, l, x);
+        }
     }
 }
 

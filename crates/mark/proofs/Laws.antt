@@ -74,3 +74,7 @@ module _ {S : Type 0} (O : Ops S) (l : Lay) where
   plain-left (suc (suc (suc (suc (suc (suc (suc (suc zero)))))))) x y s d₄ d₅ d₆ d₇ d₈ = absurd (d₈ refl)
   plain-left (suc (suc (suc (suc (suc (suc (suc (suc (suc t))))))))) x y s d₄ d₅ d₆ d₇ d₈ =
       ap (λ (v : Value). markValue O l v s) (sym (past-nil (suc (suc (suc (suc (suc (suc (suc (suc (suc t))))))))) x y (omega arith)))
+
+  -- In particular one with a tag below 4.
+  pub plain-low : (t x y : ℕ) (s : S) → t < 4 → s ≡ markValue O l (valueOf t x y) s
+  plain-low t x y s h = plain-left t x y s (λ e. omega arith) (λ e. omega arith) (λ e. omega arith) (λ e. omega arith) (λ e. omega arith)

@@ -197,6 +197,24 @@ pub fn mark_value_at(w: &mut [u32], l: Lay, p: usize)
     mark_tagged(w, l, tag, low, high);
 }
 
+// The same. Most values of a table or a stack are no object, or a table: these are told here, before a call is made.
+pub fn mark_place(w: &mut [u32], l: Lay, p: usize)
+    requires { ⌜ Laid l ⌝ }
+    requires { ⌜ l .words ≤ length (now w) ⌝ }
+    requires { ⌜ p + 2 < length (now w) ⌝ }
+    ensures { λ _. ⌜ now (w .exit) ≡ markValueAt (ops l) l p (now (w .entry)) ⌝ }
+{
+    let tag = base::get(w, p);
+    if tag < 4 {
+        return;
+    }
+    if tag == 5 {
+        mark_table(w, l, TableRef(base::get(w, p + 1), base::get(w, p + 2)));
+        return;
+    }
+    mark_value_at(w, l, p);
+}
+
 // Whether the value in words p to p + 2 is nil, as every unknown tag is.
 pub fn is_nil_at(w: &[u32], p: usize) -> bool
     requires { ⌜ p + 2 < length (now w) ⌝ }
@@ -243,7 +261,7 @@ pub fn mark_values(w: &mut [u32], l: Lay, p: usize, n: usize)
 {
     let mut i: usize = 0;
     while i < n {
-        mark_value_at(w, l, p + 3 * i);
+        mark_place(w, l, p + 3 * i);
         i += 1;
     }
 }

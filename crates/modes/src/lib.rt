@@ -21,7 +21,7 @@ pub struct Mode {
     pub values: bool,
 }
 
-const STRONG: Mode = Mode {
+pub const STRONG: Mode = Mode {
     keys: false,
     values: false,
 };

@@ -22,7 +22,7 @@ pub enum Propagated {
 }
 
 // An item of no kind that is traversed is taken out at cost 0.
-fn propagate_item(w: &mut [u32], b: &[u8], l: Lay, x: Item) -> Propagated
+pub fn propagate_item(w: &mut [u32], b: &[u8], l: Lay, x: Item) -> Propagated
     requires { ⌜ Laid l ⌝ }
     requires { ⌜ l .words ≤ length (now w) ⌝ }
     requires { ⌜ l .bytes ≤ length (now b) ⌝ }

@@ -3,12 +3,14 @@
 use layout::Lay;
 use lists::Item;
 use modes::Mode;
+use value::TableOr;
 use value::TableRef;
 ghost use mathlib.Core.Path.{_≡_};
 ghost use Prim.Native.Nat.{_+_, _*_, _≤_, _<_};
 ghost use lib.ListN.{length};
 ghost use Rattle.laid.specs.Laid.{Laid};
 ghost use Rattle.mark.specs.Words.{ops};
+ghost use Rattle.modes.specs.Modes.{weakMode};
 ghost use Rattle.table_walk.specs.Tables.{markUnless, markPair, markNode, markNodes, markArray, markEntries, listWeak, traverseTableAt, tableCost, traverseTable};
 
 // The value in words p to p + 2, unless it is held weakly.
@@ -21,7 +23,7 @@ fn mark_unless(w: &mut [u32], l: Lay, weak: bool, p: usize)
     if weak {
         return;
     }
-    mark::mark_value_at(w, l, p);
+    mark::mark_place(w, l, p);
 }
 
 // The key unless keys are weak, the value unless values are.
@@ -104,6 +106,19 @@ fn list_weak(w: &mut [u32], l: Lay, m: Mode, r: TableRef)
     }
 }
 
+// The mode that a metatable gives. Most tables have none: that is told here, before a call is made.
+fn mode_of(w: &[u32], b: &[u8], l: Lay, mt: TableOr) -> Mode
+    requires { ⌜ Laid l ⌝ }
+    requires { ⌜ l .words ≤ length (now w) ⌝ }
+    requires { ⌜ l .bytes ≤ length (now b) ⌝ }
+    ensures { λ m. ⌜ m ≡ weakMode l mt (now (w .entry)) (now (b .entry)) ⌝ }
+{
+    match mt {
+        TableOr::Present(_) => modes::check_weak_mode(w, b, l, mt),
+        TableOr::Absent => modes::STRONG,
+    }
+}
+
 // The table of slot r.0 is black, its links are marked.
 fn traverse_table_at(w: &mut [u32], b: &[u8], l: Lay, r: TableRef)
     requires { ⌜ Laid l ⌝ }
@@ -115,7 +130,7 @@ fn traverse_table_at(w: &mut [u32], b: &[u8], l: Lay, r: TableRef)
     let i = base::wide(r.0);
     let p = record::body_of(w, l.tables, i);
     let mt = record::tables::table_meta(w, p);
-    let m = modes::check_weak_mode(w, b, l, mt);
+    let m = mode_of(w, b, l, mt);
     arena::set_colour(w, l.tables, i, 4);
     mark::mark_table_or(w, l, mt);
     list_weak(w, l, m, r);

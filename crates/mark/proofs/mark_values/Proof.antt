@@ -18,14 +18,14 @@ abbrev μ-loop : tie.MeasureT-loop
 loop-holds : tie.Need-loop-holds Inv-loop μ-loop
 loop-holds c = record { rest = refl; long = refl }
 
-mul-mark-value-at : tie.Need-mul-mark-value-at Inv-loop μ-loop
-mul-mark-value-at c = omega arith
+mul-mark-place : tie.Need-mul-mark-place Inv-loop μ-loop
+mul-mark-place c = omega arith
 
-add-mark-value-at : tie.Need-add-mark-value-at Inv-loop μ-loop
-add-mark-value-at c = omega arith
+add-mark-place : tie.Need-add-mark-place Inv-loop μ-loop
+add-mark-place c = omega arith
 
-mark-value-at-requires : tie.Need-mark-value-at-requires Inv-loop μ-loop
-mark-value-at-requires c κs = (c .before .before .before .before .pre .0, (omega (arith, c .before .before .before .before .pre .1 .0, c .before .before .loop .inv .long), omega (arith, c .before .before .before .before .pre .1 .1, c .before .before .loop .inv .long, c .before .loop-test .taken)))
+mark-place-requires : tie.Need-mark-place-requires Inv-loop μ-loop
+mark-place-requires c κs = (c .before .before .before .before .pre .0, (omega (arith, c .before .before .before .before .pre .1 .0, c .before .before .loop .inv .long), omega (arith, c .before .before .before .before .pre .1 .1, c .before .before .loop .inv .long, c .before .loop-test .taken)))
 
 add-i : tie.Need-add-i Inv-loop μ-loop
 add-i c = omega arith
@@ -34,7 +34,7 @@ loop-less : tie.Need-loop-less Inv-loop μ-loop
 loop-less c = omega (arith, c .before .before .before .before .loop-test .taken)
 
 loop-again : tie.Need-loop-again Inv-loop μ-loop
-loop-again c = record { rest = run-again _ (c .before .before .before .before .before .loop .inv .rest) (c .before .before .before .before .loop-test .taken) (c .before .before .mark-value-at .ensures); long = c .before .before .mark-value-at .kept .0 ∙ c .before .before .before .before .before .loop .inv .long }
+loop-again c = record { rest = run-again _ (c .before .before .before .before .before .loop .inv .rest) (c .before .before .before .before .loop-test .taken) (c .before .before .mark-place .ensures); long = c .before .before .mark-place .kept .0 ∙ c .before .before .before .before .before .loop .inv .long }
 
 same-length : tie.Need-same-length Inv-loop μ-loop
 same-length c = c .before .loop .inv .long
@@ -50,9 +50,9 @@ mark-values-spec =
     Inv-loop
     μ-loop
     loop-holds
-    mul-mark-value-at
-    add-mark-value-at
-    mark-value-at-requires
+    mul-mark-place
+    add-mark-place
+    mark-place-requires
     add-i
     loop-less
     loop-again

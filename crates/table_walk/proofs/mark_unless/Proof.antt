@@ -8,15 +8,15 @@ returns : tie.Need-returns
 unfolding markUnless
 returns c = rw (c .if1 .taken)
 
-mark-value-at-requires : tie.Need-mark-value-at-requires
-mark-value-at-requires c κs = search needs
+mark-place-requires : tie.Need-mark-place-requires
+mark-place-requires c κs = search needs
 
 same-length : tie.Need-same-length
 same-length c = search needs
 
 returns-2 : tie.Need-returns-2
 unfolding markUnless
-returns-2 c = rw (c .before .before .before .before .if1 .left) (c .before .before .mark-value-at .ensures)
+returns-2 c = rw (c .before .before .before .before .if1 .left) (c .before .before .mark-place .ensures)
 
 pub mark-unless-spec : {M : Type 1} → statement M
-mark-unless-spec = tie.close (tie.spec returns mark-value-at-requires same-length returns-2)
+mark-unless-spec = tie.close (tie.spec returns mark-place-requires same-length returns-2)

@@ -15,8 +15,8 @@ body-of-requires c κs = (tables-room _ _ (c .before .before .before .before .pr
 table-meta-requires : tie.Need-table-meta-requires
 table-meta-requires c κs = rw (table-words _ (c .before .before .before .before .before .before .pre .0)) at (c .before .body-of .ensures .1)
 
-check-weak-mode-requires : tie.Need-check-weak-mode-requires
-check-weak-mode-requires c κs = (c .before .before .before .before .before .before .before .before .pre .0, (c .before .before .before .before .before .before .before .before .pre .1 .0, c .before .before .before .before .before .before .before .before .pre .1 .1 .0))
+mode-of-requires : tie.Need-mode-of-requires
+mode-of-requires c κs = (c .before .before .before .before .before .before .before .before .pre .0, (c .before .before .before .before .before .before .before .before .pre .1 .0, c .before .before .before .before .before .before .before .before .pre .1 .1 .0))
 
 set-colour-requires : tie.Need-set-colour-requires
 set-colour-requires c κs = (tables-room _ _ (c .before .before .before .before .before .before .before .before .before .before .pre .0) (c .before .before .before .before .before .before .before .before .before .before .pre .1 .0), rw (c .before .before .before .before .before .before .before .wide .ensures .0) (c .before .before .before .before .before .before .before .before .before .before .pre .1 .1 .1))
@@ -35,7 +35,7 @@ same-length c = search needs
 
 returns : tie.Need-returns
 unfolding traverseTableAt
-returns c = rw (← (rw (c .before .before .before .before .before .before .before .before .before .before .before .before .before .before .before .before .before .before .before .before .before .before .wide .ensures .0) at (c .before .before .before .before .before .before .before .before .before .before .before .before .before .before .before .before .before .before .before .before .body-of .ensures .0)), ← c .before .before .before .before .before .before .before .before .before .before .before .before .before .before .before .before .before .before .table-meta .ensures, ← c .before .before .before .before .before .before .before .before .before .before .before .before .before .before .before .before .check-weak-mode .ensures, ← (rw (c .before .before .before .before .before .before .before .before .before .before .before .before .before .before .before .before .before .before .before .before .before .before .wide .ensures .0) at (c .before .before .before .before .before .before .before .before .before .before .before .before .before .before .set-colour .ensures)), ← c .before .before .before .before .before .before .before .before .before .before .mark-table-or .ensures, ← c .before .before .before .before .before .before .list-weak .ensures) (c .before .before .mark-entries .ensures)
+returns c = rw (← (rw (c .before .before .before .before .before .before .before .before .before .before .before .before .before .before .before .before .before .before .before .before .before .before .wide .ensures .0) at (c .before .before .before .before .before .before .before .before .before .before .before .before .before .before .before .before .before .before .before .before .body-of .ensures .0)), ← c .before .before .before .before .before .before .before .before .before .before .before .before .before .before .before .before .before .before .table-meta .ensures, ← c .before .before .before .before .before .before .before .before .before .before .before .before .before .before .before .before .mode-of .ensures, ← (rw (c .before .before .before .before .before .before .before .before .before .before .before .before .before .before .before .before .before .before .before .before .before .before .wide .ensures .0) at (c .before .before .before .before .before .before .before .before .before .before .before .before .before .before .set-colour .ensures)), ← c .before .before .before .before .before .before .before .before .before .before .mark-table-or .ensures, ← c .before .before .before .before .before .before .list-weak .ensures) (c .before .before .mark-entries .ensures)
 
 pub traverse-table-at-spec : {M : Type 1} → statement M
 traverse-table-at-spec =
@@ -44,7 +44,7 @@ traverse-table-at-spec =
     wide-requires
     body-of-requires
     table-meta-requires
-    check-weak-mode-requires
+    mode-of-requires
     set-colour-requires
     mark-table-or-requires
     list-weak-requires

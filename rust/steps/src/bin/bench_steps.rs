@@ -1,6 +1,7 @@
 //! Times our steps beside the source's in one run: `bench_steps [ROUNDS]`. Each row is the median
 //! of the rounds, with the fastest and slowest; the ratio is ours over the source's. Ours works on
-//! a transcription of the source's heap, copied anew for each round outside the time taken.
+//! a transcription of the source's heap. After each round both sides go on to where it began, each
+//! by its own steps and outside the time taken, so that neither finds its heap colder than the other.
 //!
 //! Build it as products are built: `cargo run --offline --profile measured -p steps --features
 //! engine_steps --bin bench_steps`. Without the feature the source is timed alone.
@@ -10,7 +11,7 @@
 
 use heap::Words;
 use heap::layout::header;
-use heap::words::{Waiting, empty, phase, transcribed};
+use heap::words::{Waiting, phase, transcribed};
 use oracle::{Oracle, Phase, Sizes, Step, TableRef, Value};
 use std::hint::black_box;
 use steps::engine::{Call, Engine, OUT};
@@ -29,17 +30,33 @@ struct Ours {
 }
 
 impl Ours {
-    /// Nanoseconds of so many calls on a copy of this heap, which they leave in a phase.
-    fn time(&mut self, heap: &Words, calls: u32, call: Call, end: Phase) -> f64 {
-        self.work.clone_from(heap);
-        let Self { engine, work } = self;
+    fn make(&mut self, call: Call) {
         let mut out = [0; OUT];
+        let code = call.make(self.engine.as_mut(), &mut self.work, &mut out);
+        assert_eq!(black_box(code), 0, "refused");
+    }
+
+    fn phase(&self) -> u32 {
+        self.work.words[header::PHASE]
+    }
+
+    /// Makes single steps until the heap is in a phase.
+    fn go_to(&mut self, end: Phase) {
+        while self.phase() != phase(end) {
+            self.make(Call::Single);
+        }
+    }
+
+    /// Nanoseconds of so many calls from one phase on, which they leave in another.
+    fn time(&mut self, start: Phase, calls: u32, call: Call, end: Phase) -> f64 {
+        self.go_to(Phase::Pause);
+        self.go_to(start);
         let time = timed(1, || {
             for _ in 0..calls {
-                black_box(call.make(engine.as_mut(), work, &mut out));
+                self.make(call);
             }
         });
-        assert_eq!(work.words[header::PHASE], phase(end), "the wrong phase");
+        assert_eq!(self.phase(), phase(end), "the wrong phase");
         time
     }
 }
@@ -154,7 +171,6 @@ fn root_marking(rounds: usize, ours: &mut Option<Ours>) {
 
 /// From Pause to just before the atomic step: by single steps, and in one step of that budget.
 fn propagate(rounds: usize, ours: &mut Option<Ours>, heap: &mut Oracle) {
-    let before = words(heap);
     heap.gc_singlestep();
     // As many as the row makes: it has the roots first and ends before the atomic step. Both cost
     // nothing.
@@ -165,7 +181,7 @@ fn propagate(rounds: usize, ours: &mut Option<Ours>, heap: &mut Oracle) {
         "propagate 4,096 tables of 8 and 8",
         rounds,
         ours,
-        |ours| ours.time(&before, steps, Call::Single, Phase::Propagate),
+        |ours| ours.time(Phase::Pause, steps, Call::Single, Phase::Propagate),
         || {
             let time = single_steps(heap, steps);
             assert_eq!(phase_of(heap), Phase::Propagate);
@@ -177,7 +193,7 @@ fn propagate(rounds: usize, ours: &mut Option<Ours>, heap: &mut Oracle) {
         "the same in one budgeted step",
         rounds,
         ours,
-        |ours| ours.time(&before, 1, Call::Budgeted(cost), Phase::Propagate),
+        |ours| ours.time(Phase::Pause, 1, Call::Budgeted(cost), Phase::Propagate),
         || {
             let time = timed(1, || _ = black_box(heap.gc_step(cost)));
             assert_eq!(phase_of(heap), Phase::Propagate);
@@ -195,15 +211,13 @@ fn sweep(rounds: usize, ours: &mut Option<Ours>, heap: &mut Oracle) {
             heap.gc_singlestep();
         }
     };
-    to_sweep(heap);
-    let before = words(heap);
     let steps = TABLES.div_ceil(80);
     let per = |time: f64| time / f64::from(steps);
     row(
         "sweep step",
         rounds,
         ours,
-        |ours| per(ours.time(&before, steps, Call::Single, Phase::Sweep)),
+        |ours| per(ours.time(Phase::Sweep, steps, Call::Single, Phase::Sweep)),
         || {
             to_sweep(heap);
             let time = single_steps(heap, steps);
@@ -215,12 +229,11 @@ fn sweep(rounds: usize, ours: &mut Option<Ours>, heap: &mut Oracle) {
 }
 
 fn full_collection(rounds: usize, ours: &mut Option<Ours>, heap: &mut Oracle) {
-    let before = words(heap);
     row(
         "full collection of it",
         rounds,
         ours,
-        |ours| ours.time(&before, 1, Call::Full, Phase::Pause),
+        |ours| ours.time(Phase::Pause, 1, Call::Full, Phase::Pause),
         || timed(1, || _ = black_box(heap.full_gc())),
     );
     assert_eq!(heap.snapshot().tables.occupied, TABLES, "all are live");
@@ -228,14 +241,14 @@ fn full_collection(rounds: usize, ours: &mut Option<Ours>, heap: &mut Oracle) {
 
 fn main() {
     let rounds = timing::rounds();
+    let mut heap = graph();
     let mut ours = linked().map(|engine| Ours {
         engine,
-        work: empty(),
+        work: words(&heap),
     });
     if ours.is_none() {
         println!("feature engine_steps is off: the source is timed alone");
     }
-    let mut heap = graph();
     propagate(rounds, &mut ours, &mut heap);
     full_collection(rounds, &mut ours, &mut heap);
     sweep(rounds, &mut ours, &mut heap);

@@ -1,0 +1,67 @@
+-- `mark::mark_place` meets its contract: a tag below 4 marks nothing, 5 marks a table, and any other is left to the callee. Assumes nothing.
+use borrow.Author.Needs.{needs}
+use Rattle.base.specs.Ways.{ifEq}
+use Rattle.value.specs.Values.{valueOf}
+use Rattle.mark.specs.Marking.{markValue, markValueAt}
+use Rattle.mark.proofs.Laws.{plain-low}
+use Rattle.mark.proofs.mark_place.Statement.{statement}
+use Rattle.mark.proofs.mark_place.Tie as tie
+
+get-requires : tie.Need-get-requires
+get-requires c κs = search needs
+
+same-length : tie.Need-same-length
+same-length c = search needs
+
+returns : tie.Need-returns
+unfolding markValueAt
+returns c = plain-low _ _ _ _ _ _ (rw (c .before .get .ensures) at (c .if1 .taken))
+
+add-get : tie.Need-add-get
+add-get c = search needs
+
+get-requires-2 : tie.Need-get-requires-2
+get-requires-2 c κs = search needs
+
+add-get-2 : tie.Need-add-get-2
+add-get-2 c = search needs
+
+get-requires-3 : tie.Need-get-requires-3
+get-requires-3 c κs = search needs
+
+mark-table-requires : tie.Need-mark-table-requires
+mark-table-requires c κs = search needs
+
+same-length-2 : tie.Need-same-length-2
+same-length-2 c = search needs
+
+returns-2 : tie.Need-returns-2
+unfolding markValueAt markValue valueOf ifEq
+returns-2 c = rw (← c .before .before .before .before .before .before .before .before .before .before .get .ensures, c .before .before .before .before .before .before .before .before .if2 .taken, ← c .before .before .before .before .before .get2 .ensures, ← c .before .before .before .get3 .ensures) (c .before .before .mark-table .ensures)
+
+mark-value-at-requires : tie.Need-mark-value-at-requires
+mark-value-at-requires c κs = search needs
+
+same-length-3 : tie.Need-same-length-3
+same-length-3 c = search needs
+
+returns-3 : tie.Need-returns-3
+returns-3 c = c .before .before .mark-value-at .ensures
+
+pub mark-place-spec : {M : Type 1} → statement M
+mark-place-spec =
+    tie.close
+    (tie.spec
+    get-requires
+    same-length
+    returns
+    add-get
+    get-requires-2
+    add-get-2
+    get-requires-3
+    mark-table-requires
+    same-length-2
+    returns-2
+    mark-value-at-requires
+    same-length-3
+    returns-3)
