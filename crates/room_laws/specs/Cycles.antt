@@ -6,11 +6,9 @@
 --     propagating-whole, propagating-rooms     it keeps the lists paid for and leaves the damage mark; and so no list passes its room
 use mathlib.Core.Path.{_≡_, refl, sym, ap, subst, _∙_}
 use mathlib.Core.List.{List}
-use mathlib.Core.Logic.{_≢_}
-use Prim.Native.Nat.{ℕ, zero, suc, _+_, _*_, _≤_, _<_}
+use Prim.Native.Nat.{ℕ, _+_, _≤_, _<_}
 use native.Mathlib.Decide.{ℕ-discrete}
 use native.Mathlib.Omega.{arith}
-use lib.Dec.{eqb}
 use lib.ListN.{length, length-set}
 use borrow.Author.Tests.{ne-eqb}
 use Rattle.base.specs.Ways.{ifEq, eq-yes, eq-no, eq-either}
@@ -34,18 +32,17 @@ use Rattle.propagate.specs.Barriers.{barrierBack, barrierForward}
 use Rattle.links.specs.Links.{valueLinks, rootLinks}
 use Rattle.mark_laws.specs.Apart.{Apart, Order, order}
 use Rattle.mark_laws.specs.Moves.{still}
-use Rattle.mark_laws.specs.Changes.{Marked, marked-none, moves-marked, work-room}
-use Rattle.mark_laws.specs.Marks.{marks}
+use Rattle.mark_laws.specs.Changes.{Marked, marked-none, moves-marked}
 use Rattle.mark_laws.specs.Follows.{value-links}
 use Rattle.mark_laws.specs.RootLinks.{roots-links, cleared-moves}
-use Rattle.mark_laws.specs.Items.{one, itemsTo, itemsOf, push-counts}
+use Rattle.mark_laws.specs.Items.{itemsTo, itemsOf, push-counts}
 use Rattle.mark_laws.specs.Starts.{cleared-empty}
 use Rattle.room_laws.specs.Counts.{isGray, isDark, count-most, count-same}
 use Rattle.room_laws.specs.Tallies.{Tally, tally, Paid, Ample}
 use Rattle.room_laws.specs.Frames.{Quiet, push-only, other-same, colours-same}
 use Rattle.room_laws.specs.Paints.{paint-more, paint-mark}
 use Rattle.room_laws.specs.Payments.{Whole, quiet-whole, Painted, painted, Grown, grown, whole-long, marks-whole}
-use Rattle.room_laws.specs.Steps.{whole-less, mainsDue, one-whole, main-whole}
+use Rattle.room_laws.specs.Steps.{mainsDue, one-whole, main-whole}
 
 module _ (l : Lay) (ok : Laid l) (a : Apart l) (am : Ample l) (w : List ℕ) (long : l .words ≤ length w) where
   abbrev o : Order l

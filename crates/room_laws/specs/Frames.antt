@@ -1,14 +1,13 @@
 -- Which words a tally is read from, and so what leaves it. Assumes nothing.
 --     OnList, list-same         the words of a list; where they stay, its length and its items do
 --     Other, OnlyList           two lists that are not the same; words that differ only in one list and in the damage mark
---     other-same, colours-same  the other lists, and all colours, are then as they were
+--     other-words, other-same, colours-same     the other lists, and all colours, are then as they were
 --     push-only, pop-only, cleared-only     push, pop and clearing are such
 --     Quiet, quiet-paid         words that differ in nothing that a tally is read from; what was paid for is
 use mathlib.Core.Path.{_≡_, refl, ap, _∙_}
-use mathlib.Core.Bool.{Bool}
 use mathlib.Core.List.{List as Words}
 use mathlib.Core.Logic.{_⊎_, inl, inr, _≢_}
-use Prim.Native.Nat.{ℕ, zero, suc, min, _+_, _*_, _≤_, _<_}
+use Prim.Native.Nat.{ℕ, min, _+_, _*_, _≤_, _<_}
 use native.Mathlib.Omega.{arith}
 use lib.ListN.{length}
 use Rattle.base.specs.Words.{at}
@@ -26,7 +25,7 @@ use Rattle.mark_laws.specs.Changes.{colour-in, work-room}
 use Rattle.mark_laws.specs.Whites.{Listed}
 use Rattle.mark_laws.specs.Items.{itemsOf, items-stay}
 use Rattle.room_laws.specs.Counts.{isGray, isDark, count-alike}
-use Rattle.room_laws.specs.Tallies.{Tally, tally, darkIn, Paid, paid-less}
+use Rattle.room_laws.specs.Tallies.{tally, Paid, paid-less}
 
 -- A list's words: its count and its items' places.
 abbrev pub OnList : List → ℕ → Type 0
@@ -117,9 +116,13 @@ module _ (l : Lay) (ok : Laid l) (a : Apart l) where
   lists-apart grayagain grayagain d q h = absurd d
   lists-apart weak weak d q h = absurd d
 
-  -- The other lists are as they were,
+  -- The words of another list are as they were,
+  pub other-words : (k j : Work) → Other k j → (u v : Words ℕ) → OnlyList l k u v → (q : ℕ) → OnList (listOf l j) q → at v q ≡ at u q
+  other-words k j d u v s q h = s q (lists-apart k j d q h .0) (lists-apart k j d q h .1) (lists-apart k j d q h .2)
+
+  -- so is its length, and the number of its items of each kind,
   pub other-same : (k j : Work) → Other k j → (u v : Words ℕ) → OnlyList l k u v → (lengthOf (listOf l j) v ≡ lengthOf (listOf l j) u) × ((c : ℕ) → itemsOf (listOf l j) c v ≡ itemsOf (listOf l j) c u)
-  other-same k j d u v s = list-same (listOf l j) u v (λ q h. s q (lists-apart k j d q h .0) (lists-apart k j d q h .1) (lists-apart k j d q h .2))
+  other-same k j d u v s = list-same (listOf l j) u v (other-words k j d u v s)
 
   -- each list's count and items lie apart from every colour
   pub colour-off : (k : Work) (d i : ℕ) → i < (arenaOf l d) .slots → ((arenaOf l d) .base + i ≢ (listOf l k) .count) × ((arenaOf l d) .base + i ≢ damage)

@@ -3,8 +3,8 @@
 --     black-whole, gray-whole, marks-whole      painting a white slot; marking a list of links
 --     table-black, closure-black, thread-black      a slot that is traversed is painted black
 --     weak-whole, again-whole   a push onto weak, and one onto grayagain
-use mathlib.Core.Path.{_≡_, refl, sym, ap, _∙_}
-use mathlib.Core.Bool.{Bool, true, false}
+use mathlib.Core.Path.{_≡_, refl, ap, _∙_}
+use mathlib.Core.Bool.{true}
 use mathlib.Core.List.{List}
 use mathlib.Core.Logic.{_≢_}
 use Prim.Native.Nat.{ℕ, zero, suc, _+_, _*_, _≤_, _<_}
@@ -22,17 +22,17 @@ use Rattle.lists.specs.Lists.{damage, kindOf, lengthOf, push}
 use Rattle.lists.specs.Laws.{push-long, push-length, push-unmarked}
 use Rattle.lists.specs.Laws as lists
 use Rattle.laid.specs.Laid.{Laid}
-use Rattle.mark.specs.Ops.{Ref, ref, tab, fun, thread, Work, gray, grayagain, weak, isWhite}
-use Rattle.mark.specs.Words.{arenaOf, listOf, colourW, paintW}
+use Rattle.mark.specs.Ops.{Ref, ref, tab, fun, thread, gray, grayagain, weak, isWhite}
+use Rattle.mark.specs.Words.{arenaOf, colourW, paintW}
 use Rattle.mark_laws.specs.Apart.{Apart, Order, order}
 use Rattle.mark_laws.specs.Colours.{white-true}
 use Rattle.mark_laws.specs.Changes.{work-room}
 use Rattle.mark_laws.specs.Marks.{marks}
 use Rattle.mark_laws.specs.Whites.{Listed}
-use Rattle.mark_laws.specs.Items.{one, itemsOf, push-counts}
+use Rattle.mark_laws.specs.Items.{one, push-counts}
 use Rattle.room_laws.specs.Pends.{Direct, itemFor, marks-keep}
 use Rattle.room_laws.specs.Counts.{isGray, isDark, dark-marked, dark-not, count-most, count-same}
-use Rattle.room_laws.specs.Tallies.{Tally, tally, darkIn, Paid, Ample, paid-less}
+use Rattle.room_laws.specs.Tallies.{Tally, tally, darkIn, Paid, Ample}
 use Rattle.room_laws.specs.Frames.{Quiet, quiet-paid, list-same, other-same, colours-same, push-only}
 use Rattle.room_laws.specs.Paints.{countIn, direct-listed, paint-there, paint-up, paint-more, paint-down, paint-list, paint-mark, paint-quiet}
 

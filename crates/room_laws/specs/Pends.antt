@@ -4,10 +4,10 @@
 --     Direct, itemFor        the kinds that are followed at once; the item by which one of the others is listed
 --     marks-pends            the induction
 --     marks-keep             the same for what does not speak of links that are still to be marked
-use mathlib.Core.Path.{_≡_, refl, sym, ap, subst}
+use mathlib.Core.Path.{_≡_, refl, sym, subst}
 use mathlib.Core.Bool.{Bool, true, false, cond}
-use mathlib.Core.List.{List, [], _∷_, _++_, append-assoc, append-nil}
-use Prim.Native.Nat.{ℕ, zero, suc, _+_, _≤_}
+use mathlib.Core.List.{List, [], _∷_, _++_, append-assoc}
+use Prim.Native.Nat.{ℕ, zero, suc, _≤_}
 use native.Mathlib.Omega.{arith}
 use lib.ListN.{length}
 use Rattle.value.specs.declared.TableOr.{TableOr}
@@ -22,9 +22,9 @@ use Rattle.record.specs.Fields.{bodyAt}
 use Rattle.record.specs.Userdata.{udMeta, udEnv}
 use Rattle.run_record.specs.Upvalues.{isClosed, upvalueValue}
 use Rattle.laid.specs.Laid.{Laid}
-use Rattle.mark.specs.Ops.{Ref, ref, str, tab, fun, upval, ud, thread, isWhite}
-use Rattle.mark.specs.Words.{arenaOf, shade, colourW, paintW, ops}
-use Rattle.mark.specs.Marking.{markString, markTable, markClosure, markThread, markUserdata, markUpvalue}
+use Rattle.mark.specs.Ops.{Ref, ref, isWhite}
+use Rattle.mark.specs.Words.{arenaOf, shade, colourW, paintW}
+use Rattle.mark.specs.Marking.{markString, markTable, markClosure, markThread}
 use Rattle.links.specs.Links.{valueLinks, tableLink, userdataLinks, upvalueLinks, links}
 use Rattle.mark_laws.specs.Apart.{Apart}
 use Rattle.mark_laws.specs.Colours.{shade-parts, white-true, not-white}

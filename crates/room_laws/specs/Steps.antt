@@ -8,7 +8,7 @@ use mathlib.Core.Path.{_≡_, refl, sym, ap, subst, _∙_}
 use mathlib.Core.Bool.{Bool, true, false, cond}
 use mathlib.Core.List.{List}
 use mathlib.Core.Logic.{inl, _≢_}
-use Prim.Native.Nat.{ℕ, zero, suc, _+_, _-_, _≤_, _<_}
+use Prim.Native.Nat.{ℕ, _+_, _-_, _≤_, _<_}
 use native.Mathlib.Decide.{ℕ-discrete}
 use native.Mathlib.Omega.{arith}
 use lib.Dec.{eqb}
@@ -28,7 +28,7 @@ use Rattle.record.specs.Fields.{bodyAt}
 use Rattle.record.specs.Tables.{tableMeta}
 use Rattle.laid.specs.Laid.{Laid, gray-room}
 use Rattle.mark.specs.Ops.{tab, fun, thread, gray, grayagain, weak}
-use Rattle.mark.specs.Words.{colourW, paintW, ops}
+use Rattle.mark.specs.Words.{colourW, ops}
 use Rattle.modes.specs.declared.Mode.{Mode}
 use Rattle.modes.specs.Modes.{isWeak, weakMode}
 use Rattle.table_walk.specs.Tables.{tableCost, listWeak, traverseTableAt, traverseTable}
@@ -41,7 +41,6 @@ use Rattle.propagate.specs.Propagation.{propagateItem, propagateOne}
 use Rattle.links.specs.Links.{tableLink, entryLinks, closureLinks, threadLinks, mainLinks}
 use Rattle.mark_laws.specs.Apart.{Apart, Order, order}
 use Rattle.mark_laws.specs.Changes.{marked-none}
-use Rattle.mark_laws.specs.Marks.{marks}
 use Rattle.mark_laws.specs.TableLinks.{table-links}
 use Rattle.mark_laws.specs.RunLinks.{closure-links, thread-links}
 use Rattle.mark_laws.specs.MainLinks.{main-traversed}

@@ -3,7 +3,6 @@
 --     Tally, tally      the numbers
 --     Paid              each list's items, with what is kept free of it, against the slots that pay for them
 --     Ample, ample      the rooms of the lists, as document 01 gives them; the layout of any sizes has them
-use mathlib.Core.Path.{_≡_}
 use mathlib.Core.List.{List}
 use Prim.Native.Nat.{ℕ, _+_, _*_, _≤_}
 use native.Mathlib.Omega.{arith}
