@@ -20,7 +20,6 @@ use Rattle.layout.specs.Places.{PHASE, WHITE}
 use Rattle.lists.specs.declared.Item.the-variants.{Table, Main}
 use Rattle.lists.specs.Lists.{damage, lengthOf, push}
 use Rattle.lists.specs.Laws.{push-long, push-length, push-unmarked}
-use Rattle.lists.specs.Laws as lists
 use Rattle.laid.specs.Laid.{Laid, gray-room, grayagain-room}
 use Rattle.mark.specs.Ops.{tab, gray, grayagain, weak}
 use Rattle.mark.specs.Words.{colourW, paintW, ops}
@@ -39,7 +38,7 @@ use Rattle.mark_laws.specs.Items.{itemsTo, itemsOf, push-counts}
 use Rattle.mark_laws.specs.Starts.{cleared-empty}
 use Rattle.room_laws.specs.Counts.{isGray, isDark, count-most, count-same}
 use Rattle.room_laws.specs.Tallies.{Tally, tally, Paid, Ample}
-use Rattle.room_laws.specs.Frames.{Quiet, push-only, other-same, colours-same}
+use Rattle.room_laws.specs.Frames.{Quiet, mark-apart, push-only, other-same, colours-same}
 use Rattle.room_laws.specs.Paints.{paint-more, paint-mark}
 use Rattle.room_laws.specs.Payments.{Whole, quiet-whole, Painted, painted, Grown, grown, whole-long, marks-whole}
 use Rattle.room_laws.specs.Steps.{mainsDue, one-whole, main-whole}
@@ -48,14 +47,8 @@ module _ (l : Lay) (ok : Laid l) (a : Apart l) (am : Ample l) (w : List ℕ) (lo
   abbrev o : Order l
   o = order l ok a
 
-  gray-mark : lists.Apart (l .gray)
-  gray-mark = record { below = omega (arith, o .header, a); other = λ e. omega (arith, e, o .gray) }
-
-  again-mark : lists.Apart (l .grayagain)
-  again-mark = record { below = omega (arith, o .header, a); other = λ e. omega (arith, e, o .grayagain) }
-
   -- The lists are emptied, and the main thread is listed.
-  abbrev empty : List ℕ
+  abbrev pub empty : List ℕ
   empty = clearLists (ops l) w
 
   empty-marked : Marked l w empty
@@ -72,12 +65,13 @@ module _ (l : Lay) (ok : Laid l) (a : Apart l) (am : Ample l) (w : List ℕ) (lo
   unfolding itemsTo
   no-later = ap (λ (n : ℕ). itemsTo (l .grayagain) 5 n empty) (cleared-empty l ok a w long .1)
 
-  listed-whole : Whole l 0 0 0 w (push (l .gray) Main empty)
+  -- That is paid for.
+  pub listed-whole : Whole l 0 0 0 w (push (l .gray) Main empty)
   listed-whole =
       let e = cleared-empty l ok a w long in
       record {
         long = push-long (l .gray) Main empty (gray-room l empty ok empty-long) ∙ empty-marked .long;
-        mark = push-unmarked (l .gray) Main empty (gray-room l empty ok empty-long) gray-mark room ∙ e .3;
+        mark = push-unmarked (l .gray) Main empty (gray-room l empty ok empty-long) (mark-apart l ok a gray) room ∙ e .3;
         paid = sums (tally l empty) (tally l (push (l .gray) Main empty)) (e .0) (e .2) (e .1) (no-items 5) (no-items 8) (no-items 9) no-later (grown l ok a am Main empty empty-long room);
       }
     where
@@ -104,10 +98,10 @@ module _ (l : Lay) (ok : Laid l) (a : Apart l) (am : Ample l) (w : List ℕ) (lo
       let z = other-same l ok a grayagain weak tt v (push (l .grayagain) (Table r) v) s in
       record {
         long = push-long (l .grayagain) (Table r) v (grayagain-room l v ok v-long) ∙ length-set u (l .tables .base + r .0) 3 ∙ h .long;
-        mark = push-unmarked (l .grayagain) (Table r) v (grayagain-room l v ok v-long) again-mark room ∙ paint-mark l ok a (tab r) 3 u u-long named ∙ h .mark;
+        mark = push-unmarked (l .grayagain) (Table r) v (grayagain-room l v ok v-long) (mark-apart l ok a grayagain) room ∙ paint-mark l ok a (tab r) 3 u u-long named ∙ h .mark;
         paid = sums (tally l u) (tally l v) (tally l (push (l .grayagain) (Table r) v)) (h .paid) paint more
             (y .0) (z .0) (push-length (l .grayagain) (Table r) v (grayagain-room l v ok v-long) room) (y .1 5) (y .1 8) (y .1 9)
-            (push-counts (l .grayagain) 5 v (grayagain-room l v ok v-long) (Table r) again-mark)
+            (push-counts (l .grayagain) 5 v (grayagain-room l v ok v-long) (Table r) (mark-apart l ok a grayagain))
             (count-same isDark (l .tables .base) (l .tables .slots) v (push (l .grayagain) (Table r) v) (colours-same l ok a grayagain v (push (l .grayagain) (Table r) v) s 1))
             (count-same isDark (l .functions .base) (l .functions .slots) v (push (l .grayagain) (Table r) v) (colours-same l ok a grayagain v (push (l .grayagain) (Table r) v) s 2))
             (count-same isDark (l .threads .base) (l .threads .slots) v (push (l .grayagain) (Table r) v) (colours-same l ok a grayagain v (push (l .grayagain) (Table r) v) s 5))

@@ -17,6 +17,7 @@ use Rattle.layout.specs.declared.Lay.{Lay}
 use Rattle.lists.specs.declared.Item.{Item}
 use Rattle.lists.specs.Lists.{damage, lengthOf, push, pop, cleared}
 use Rattle.lists.specs.Laws.{push-kept, pop-kept, cleared-kept}
+use Rattle.lists.specs.Laws as lists
 use Rattle.laid.specs.Laid.{Laid}
 use Rattle.mark.specs.Ops.{Work, gray, grayagain, weak}
 use Rattle.mark.specs.Words.{arenaOf, listOf}
@@ -140,6 +141,12 @@ module _ (l : Lay) (ok : Laid l) (a : Apart l) where
   -- and so are all colours.
   pub colours-same : (k : Work) (u v : Words ℕ) → OnlyList l k u v → (d i : ℕ) → i < (arenaOf l d) .slots → at v ((arenaOf l d) .base + i) ≡ at u ((arenaOf l d) .base + i)
   colours-same k u v s d i h = s ((arenaOf l d) .base + i) (colour-off k d i h .0) (colour-off k d i h .1) (colour-off k d i h .2)
+
+  -- The damage mark lies apart from each list.
+  pub mark-apart : (k : Work) → lists.Apart (listOf l k)
+  mark-apart gray = record { below = omega (arith, o .header, a); other = λ e. omega (arith, e, o .gray) }
+  mark-apart grayagain = record { below = omega (arith, o .header, a); other = λ e. omega (arith, e, o .grayagain) }
+  mark-apart weak = record { below = omega (arith, o .header, a); other = λ e. omega (arith, e, o .weak) }
 
   -- Push, pop and clearing write one list, and the damage mark.
   pub push-only : (k : Work) (x : Item) (u : Words ℕ) → l .words ≤ length u → OnlyList l k u (push (listOf l k) x u)

@@ -2,11 +2,12 @@
 --     Whole                 words got from others: as long, the damage mark as it was, the lists paid for
 --     black-whole, gray-whole, marks-whole      painting a white slot; marking a list of links
 --     table-black, closure-black, thread-black      a slot that is traversed is painted black
---     weak-whole, again-whole   a push onto weak, and one onto grayagain
-use mathlib.Core.Path.{_≡_, refl, ap, _∙_}
+--     gray-fits, weak-fits, again-fits     there is room for what is paid for
+--     weak-whole, again-whole, cleared-whole     a push onto weak, one onto grayagain; grayagain emptied
+use mathlib.Core.Path.{_≡_, refl, ap, subst, _∙_}
 use mathlib.Core.Bool.{true}
 use mathlib.Core.List.{List}
-use mathlib.Core.Logic.{_≢_}
+use mathlib.Core.Logic.{inl, _≢_}
 use Prim.Native.Nat.{ℕ, zero, suc, _+_, _*_, _≤_, _<_}
 use native.Mathlib.Omega.{arith}
 use lib.Dec.{eqb}
@@ -18,22 +19,22 @@ use Rattle.value.specs.declared.FuncRef.{FuncRef}
 use Rattle.value.specs.declared.ThreadRef.{ThreadRef}
 use Rattle.layout.specs.declared.Lay.{Lay}
 use Rattle.lists.specs.declared.Item.{Item}
-use Rattle.lists.specs.Lists.{damage, kindOf, lengthOf, push}
-use Rattle.lists.specs.Laws.{push-long, push-length, push-unmarked}
-use Rattle.lists.specs.Laws as lists
+use Rattle.lists.specs.Lists.{damage, kindOf, lengthOf, push, cleared}
+use Rattle.lists.specs.Laws.{push-long, push-length, push-unmarked, cleared-length, cleared-kept}
 use Rattle.laid.specs.Laid.{Laid}
 use Rattle.mark.specs.Ops.{Ref, ref, tab, fun, thread, gray, grayagain, weak, isWhite}
 use Rattle.mark.specs.Words.{arenaOf, colourW, paintW}
 use Rattle.mark_laws.specs.Apart.{Apart, Order, order}
 use Rattle.mark_laws.specs.Colours.{white-true}
-use Rattle.mark_laws.specs.Changes.{work-room}
+use Rattle.mark_laws.specs.Moves.{still, emptied}
+use Rattle.mark_laws.specs.Changes.{moves-marked, work-room}
 use Rattle.mark_laws.specs.Marks.{marks}
 use Rattle.mark_laws.specs.Whites.{Listed}
-use Rattle.mark_laws.specs.Items.{one, push-counts}
+use Rattle.mark_laws.specs.Items.{one, itemsTo, push-counts}
 use Rattle.room_laws.specs.Pends.{Direct, itemFor, marks-keep}
 use Rattle.room_laws.specs.Counts.{isGray, isDark, dark-marked, dark-not, count-most, count-same}
-use Rattle.room_laws.specs.Tallies.{Tally, tally, darkIn, Paid, Ample}
-use Rattle.room_laws.specs.Frames.{Quiet, quiet-paid, list-same, other-same, colours-same, push-only}
+use Rattle.room_laws.specs.Tallies.{Tally, tally, darkIn, Paid, Ample, paid-less}
+use Rattle.room_laws.specs.Frames.{Quiet, quiet-paid, list-same, other-same, colours-same, mark-apart, push-only, cleared-only}
 use Rattle.room_laws.specs.Paints.{countIn, direct-listed, paint-there, paint-up, paint-more, paint-down, paint-list, paint-mark, paint-quiet}
 
 -- The words u were got from the words w: they are as long, the damage mark is as it was, and the lists are paid for.
@@ -45,6 +46,12 @@ pub record Whole (l : Lay) (p t q : ℕ) (w u : List ℕ) : Type 0 where
 -- what leaves all that a tally is read from keeps that
 pub quiet-whole : {l : Lay} {p t q : ℕ} {w u v : List ℕ} → Quiet l u v → Whole l p t q w u → Whole l p t q w v
 quiet-whole s h = record { long = s .long ∙ h .long; mark = s .mark ∙ h .mark; paid = quiet-paid s (h .paid) }
+
+le-of : {x y : ℕ} → x ≡ y → x ≤ y
+le-of e = omega (arith, e)
+
+ge-of : {x y : ℕ} → x ≡ y → y ≤ x
+ge-of e = omega (arith, e)
 
 -- Sums over any tallies: x before, y after the painting, z after the push.
 -- A painted slot: the lists as they were, no dark slot lost.
@@ -141,21 +148,15 @@ module _ (l : Lay) (ok : Laid l) (a : Apart l) (am : Ample l) where
         gray = le-of (push-length (l .gray) x u (work-room l ok a gray u long) room);
         weak = y .0;
         again = z .0;
-        tables = push-counts (l .gray) 5 u (work-room l ok a gray u long) x mark-apart;
-        threads = push-counts (l .gray) 8 u (work-room l ok a gray u long) x mark-apart;
-        mains = push-counts (l .gray) 9 u (work-room l ok a gray u long) x mark-apart;
+        tables = push-counts (l .gray) 5 u (work-room l ok a gray u long) x (mark-apart l ok a gray);
+        threads = push-counts (l .gray) 8 u (work-room l ok a gray u long) x (mark-apart l ok a gray);
+        mains = push-counts (l .gray) 9 u (work-room l ok a gray u long) x (mark-apart l ok a gray);
         later = z .1 5;
         darkTables = count-same isDark (l .tables .base) (l .tables .slots) u v (colours-same l ok a gray u v s 1);
         darkClosures = count-same isDark (l .functions .base) (l .functions .slots) u v (colours-same l ok a gray u v s 2);
         darkThreads = count-same isDark (l .threads .base) (l .threads .slots) u v (colours-same l ok a gray u v s 5);
         grayTables = count-same isGray (l .tables .base) (l .tables .slots) u v (colours-same l ok a gray u v s 1);
       }
-    where
-      mark-apart : lists.Apart (l .gray)
-      mark-apart = record { below = omega (arith, o .header, a); other = λ e. omega (arith, e, o .gray) }
-
-      le-of : {x y : ℕ} → x ≡ y → x ≤ y
-      le-of e = omega (arith, e)
 
   -- an item is pushed onto weak
   weaker : (x : Item) (u : List ℕ) (p t q : ℕ) → l .words ≤ length u → lengthOf (l .weak) u < l .weak .room → Paid (tally l u) (p + 1) t q → Paid (tally l (push (l .weak) x u)) p t q
@@ -184,15 +185,12 @@ module _ (l : Lay) (ok : Laid l) (a : Apart l) (am : Ample l) where
       let z = other-same l ok a grayagain weak tt u v s in
       sums (tally l u) (tally l v) (one (eqb (kindOf x) 5)) h
       (y .0) (z .0) (push-length (l .grayagain) x u (work-room l ok a grayagain u long) room) (y .1 5) (y .1 8) (y .1 9)
-      (push-counts (l .grayagain) 5 u (work-room l ok a grayagain u long) x mark-apart) (ap one (ne-eqb (kindOf x) 5 n))
+      (push-counts (l .grayagain) 5 u (work-room l ok a grayagain u long) x (mark-apart l ok a grayagain)) (ap one (ne-eqb (kindOf x) 5 n))
       (count-same isDark (l .tables .base) (l .tables .slots) u v (colours-same l ok a grayagain u v s 1))
       (count-same isDark (l .functions .base) (l .functions .slots) u v (colours-same l ok a grayagain u v s 2))
       (count-same isDark (l .threads .base) (l .threads .slots) u v (colours-same l ok a grayagain u v s 5))
       (count-same isGray (l .tables .base) (l .tables .slots) u v (colours-same l ok a grayagain u v s 1))
     where
-      mark-apart : lists.Apart (l .grayagain)
-      mark-apart = record { below = omega (arith, o .header, a); other = λ e. omega (arith, e, o .grayagain) }
-
       sums : (x y : Tally) (n : ℕ) → Paid x p t (q + 1) → y .gray ≡ x .gray → y .weak ≡ x .weak → y .again ≡ x .again + 1 → y .tables ≡ x .tables → y .threads ≡ x .threads → y .mains ≡ x .mains → y .later ≤ x .later + n → n ≡ 0
           → y .darkTables ≡ x .darkTables → y .darkClosures ≡ x .darkClosures → y .darkThreads ≡ x .darkThreads → y .grayTables ≡ x .grayTables → Paid y p t q
       sums x y n h a b c d e f g z i j k m = record { gray = omega (arith, h .gray, a, i, j, k); weak = omega (arith, h .weak, b, d, i); tables = omega (arith, h .tables, d, g, z, m); again = omega (arith, h .again, c, d, e, f, k, m) }
@@ -241,10 +239,34 @@ module _ (l : Lay) (ok : Laid l) (a : Apart l) (am : Ample l) where
               → y .darkTables ≤ b → y .darkClosures ≤ c → y .darkThreads ≤ d → b + c + d + 1 ≤ r → y .gray < r
           sums x y h s n f g i j = omega (arith, h .gray, s .gray, n, f, g, i, j)
 
+      fits : Listed k → lengthOf (l .gray) v < l .gray .room
+      fits s = roomy (go k refl s)
+        where
+          at-tables : (x y : Tally) → Painted x y → x .darkTables + 1 ≤ y .darkTables → x .darkTables + x .darkClosures + x .darkThreads + 1 ≤ y .darkTables + y .darkClosures + y .darkThreads
+          at-tables x y s d = omega (arith, s, d)
+
+          at-closures : (x y : Tally) → Painted x y → x .darkClosures + 1 ≤ y .darkClosures → x .darkTables + x .darkClosures + x .darkThreads + 1 ≤ y .darkTables + y .darkClosures + y .darkThreads
+          at-closures x y s d = omega (arith, s, d)
+
+          at-threads : (x y : Tally) → Painted x y → x .darkThreads + 1 ≤ y .darkThreads → x .darkTables + x .darkClosures + x .darkThreads + 1 ≤ y .darkTables + y .darkClosures + y .darkThreads
+          at-threads x y s d = omega (arith, s, d)
+
+          there : (d : ℕ) → k ≡ d → darkIn l d u + 1 ≤ darkIn l d v
+          there d e = subst (λ j. darkIn l j u + 1 ≤ darkIn l j v) e darker
+
+          go : (d : ℕ) → k ≡ d → Listed d → darkIn l 1 u + darkIn l 2 u + darkIn l 5 u + 1 ≤ darkIn l 1 v + darkIn l 2 v + darkIn l 5 v
+          go (suc zero) e s = at-tables (tally l u) (tally l v) turned (there 1 e)
+          go (suc (suc zero)) e s = at-closures (tally l u) (tally l v) turned (there 2 e)
+          go (suc (suc (suc (suc (suc zero))))) e s = at-threads (tally l u) (tally l v) turned (there 5 e)
+          go zero e s = absurd s
+          go (suc (suc (suc zero))) e s = absurd s
+          go (suc (suc (suc (suc zero)))) e s = absurd s
+          go (suc (suc (suc (suc (suc (suc d)))))) e s = absurd s
+
       listed : (x : Item) → lengthOf (l .gray) v < l .gray .room → Paid (tally l (push (l .gray) x v)) p t q → Whole l p t q w (push (l .gray) x v)
       listed x room c = record {
         long = push-long (l .gray) x v (work-room l ok a gray v longer) ∙ length-set u ((arenaOf l k) .base + i) 3 ∙ h .long;
-        mark = push-unmarked (l .gray) x v (work-room l ok a gray v longer) (record { below = omega (arith, o .header, a); other = λ e. omega (arith, e, o .gray) }) room
+        mark = push-unmarked (l .gray) x v (work-room l ok a gray v longer) (mark-apart l ok a gray) room
             ∙ paint-mark l ok a (ref k i g) 3 u (whole-long h) named ∙ h .mark;
         paid = c;
       }
@@ -254,39 +276,34 @@ module _ (l : Lay) (ok : Laid l) (a : Apart l) (am : Ample l) where
     table-gray i g u e h =
         let s = turned 1 i g u e h in
         let d = darker 1 i g u e h in
-        let r = roomy 1 i g u e h (sums (tally l u) (tally l (paintW l (ref 1 i g) 3 u)) s d) in
+        let r = fits 1 i g u e h tt in
         listed 1 i g u e h (itemFor (ref 1 i g)) r
         (table-sums (tally l u) (tally l (paintW l (ref 1 i g) 3 u)) (tally l (push (l .gray) (itemFor (ref 1 i g)) (paintW l (ref 1 i g) 3 u))) (h .paid) s d (more-gray 1 i g u e h)
         (grown (itemFor (ref 1 i g)) (paintW l (ref 1 i g) 3 u) (longer 1 i g u e h) r))
-      where
-        sums : (x y : Tally) → Painted x y → x .darkTables + 1 ≤ y .darkTables → x .darkTables + x .darkClosures + x .darkThreads + 1 ≤ y .darkTables + y .darkClosures + y .darkThreads
-        sums x y s d = omega (arith, s, d)
 
     closure-gray : {p t q : ℕ} (i g : ℕ) (u : List ℕ) → isWhite (colourW l (ref 2 i g) u) ≡ true → Whole l p t q w u → Whole l p t q w (push (l .gray) (itemFor (ref 2 i g)) (paintW l (ref 2 i g) 3 u))
     closure-gray i g u e h =
         let s = turned 2 i g u e h in
         let d = darker 2 i g u e h in
-        let r = roomy 2 i g u e h (sums (tally l u) (tally l (paintW l (ref 2 i g) 3 u)) s d) in
+        let r = fits 2 i g u e h tt in
         listed 2 i g u e h (itemFor (ref 2 i g)) r
         (closure-sums (tally l u) (tally l (paintW l (ref 2 i g) 3 u)) (tally l (push (l .gray) (itemFor (ref 2 i g)) (paintW l (ref 2 i g) 3 u))) (h .paid) s d (grayer 2 i g u e h)
         (grown (itemFor (ref 2 i g)) (paintW l (ref 2 i g) 3 u) (longer 2 i g u e h) r))
-      where
-        sums : (x y : Tally) → Painted x y → x .darkClosures + 1 ≤ y .darkClosures → x .darkTables + x .darkClosures + x .darkThreads + 1 ≤ y .darkTables + y .darkClosures + y .darkThreads
-        sums x y s d = omega (arith, s, d)
 
     thread-gray : {p t q : ℕ} (i g : ℕ) (u : List ℕ) → isWhite (colourW l (ref 5 i g) u) ≡ true → Whole l p t q w u → Whole l p t q w (push (l .gray) (itemFor (ref 5 i g)) (paintW l (ref 5 i g) 3 u))
     thread-gray i g u e h =
         let s = turned 5 i g u e h in
         let d = darker 5 i g u e h in
-        let r = roomy 5 i g u e h (sums (tally l u) (tally l (paintW l (ref 5 i g) 3 u)) s d) in
+        let r = fits 5 i g u e h tt in
         listed 5 i g u e h (itemFor (ref 5 i g)) r
         (thread-sums (tally l u) (tally l (paintW l (ref 5 i g) 3 u)) (tally l (push (l .gray) (itemFor (ref 5 i g)) (paintW l (ref 5 i g) 3 u))) (h .paid) s d (grayer 5 i g u e h)
         (grown (itemFor (ref 5 i g)) (paintW l (ref 5 i g) 3 u) (longer 5 i g u e h) r))
-      where
-        sums : (x y : Tally) → Painted x y → x .darkThreads + 1 ≤ y .darkThreads → x .darkTables + x .darkClosures + x .darkThreads + 1 ≤ y .darkTables + y .darkClosures + y .darkThreads
-        sums x y s d = omega (arith, s, d)
 
-    -- any of the three
+    -- There is room for the item,
+    pub gray-fits : {p t q : ℕ} (r : Ref) (u : List ℕ) → isWhite (colourW l r u) ≡ true → Listed (r .kind) → Whole l p t q w u → lengthOf (l .gray) (paintW l r 3 u) < l .gray .room
+    gray-fits r u e d h = fits (r .kind) (r .at) (r .gen) u e h d
+
+    -- and the lists are paid for as before.
     pub gray-whole : {p t q : ℕ} (r : Ref) (u : List ℕ) → isWhite (colourW l r u) ≡ true → Listed (r .kind) → Whole l p t q w u → Whole l p t q w (push (l .gray) (itemFor r) (paintW l r 3 u))
     gray-whole {p} {t} {q} r u e d h = go (r .kind) e d
       where
@@ -320,9 +337,6 @@ module _ (l : Lay) (ok : Laid l) (a : Apart l) (am : Ample l) where
       paid = black-sums (tally l u) (tally l (paintW l (fun r) 4 u)) p t q (h .paid) (painted (fun r) 4 u (whole-long h) n (omega arith) (omega arith))
           (ge-of (paint-there l ok a (fun r) 4 u (whole-long h) n isGray 1 (λ e. omega (arith, e))));
     }
-      where
-        ge-of : {x y : ℕ} → x ≡ y → y ≤ x
-        ge-of e = omega (arith, e)
 
     pub thread-black : {p t q : ℕ} (r : ThreadRef) {u : List ℕ} → 1 ≤ colourW l (thread r) u → Whole l p t q w u → Whole l p t q w (paintW l (thread r) 4 u)
     thread-black {p} {t} {q} r {u} n h = record {
@@ -331,34 +345,55 @@ module _ (l : Lay) (ok : Laid l) (a : Apart l) (am : Ample l) where
       paid = black-sums (tally l u) (tally l (paintW l (thread r) 4 u)) p t q (h .paid) (painted (thread r) 4 u (whole-long h) n (omega arith) (omega arith))
           (ge-of (paint-there l ok a (thread r) 4 u (whole-long h) n isGray 1 (λ e. omega (arith, e))));
     }
-      where
-        ge-of : {x y : ℕ} → x ≡ y → y ≤ x
-        ge-of e = omega (arith, e)
 
-    -- A push onto weak takes a place that is paid for,
-    pub weak-whole : {p t q : ℕ} (x : Item) {u : List ℕ} → Whole l (p + 1) t q w u → Whole l p t q w (push (l .weak) x u)
-    weak-whole {p} {t} {q} x {u} h = record {
-      long = push-long (l .weak) x u (work-room l ok a weak u (whole-long h)) ∙ h .long;
-      mark = push-unmarked (l .weak) x u (work-room l ok a weak u (whole-long h)) (record { below = omega (arith, o .header, a); other = λ e. omega (arith, e, o .weak) }) room ∙ h .mark;
-      paid = weaker x u p t q (whole-long h) room (h .paid);
-    }
+    -- A push onto weak takes a place that is paid for: there is room,
+    pub weak-fits : (p t q : ℕ) (u : List ℕ) → Whole l (p + 1) t q w u → lengthOf (l .weak) u < l .weak .room
+    weak-fits p t q u h = sums (tally l u) (h .paid) (count-most isDark (l .tables .base) (l .tables .slots) u) (am .weak)
       where
         sums : (x : Tally) {n r : ℕ} → Paid x (p + 1) t q → x .darkTables ≤ n → 2 * n ≤ r → x .weak < r
         sums x h f g = omega (arith, h .weak, f, g)
 
-        room : lengthOf (l .weak) u < l .weak .room
-        room = sums (tally l u) (h .paid) (count-most isDark (l .tables .base) (l .tables .slots) u) (am .weak)
-
-    -- and one onto grayagain, of a thread or the main thread, too.
-    pub again-whole : {p t q : ℕ} (x : Item) {u : List ℕ} → kindOf x ≢ 5 → Whole l p t (q + 1) w u → Whole l p t q w (push (l .grayagain) x u)
-    again-whole {p} {t} {q} x {u} n h = record {
-      long = push-long (l .grayagain) x u (work-room l ok a grayagain u (whole-long h)) ∙ h .long;
-      mark = push-unmarked (l .grayagain) x u (work-room l ok a grayagain u (whole-long h)) (record { below = omega (arith, o .header, a); other = λ e. omega (arith, e, o .grayagain) }) room ∙ h .mark;
-      paid = latter x u p t q (whole-long h) room n (h .paid);
+    -- and the rest is paid for.
+    pub weak-whole : {p t q : ℕ} (x : Item) {u : List ℕ} → Whole l (p + 1) t q w u → Whole l p t q w (push (l .weak) x u)
+    weak-whole {p} {t} {q} x {u} h = record {
+      long = push-long (l .weak) x u (work-room l ok a weak u (whole-long h)) ∙ h .long;
+      mark = push-unmarked (l .weak) x u (work-room l ok a weak u (whole-long h)) (mark-apart l ok a weak) (weak-fits p t q u h) ∙ h .mark;
+      paid = weaker x u p t q (whole-long h) (weak-fits p t q u h) (h .paid);
     }
+
+    -- So does one onto grayagain, of a thread or the main thread.
+    pub again-fits : (p t q : ℕ) (u : List ℕ) → Whole l p t (q + 1) w u → lengthOf (l .grayagain) u < l .grayagain .room
+    again-fits p t q u h = sums (tally l u) (h .paid) (count-most isGray (l .tables .base) (l .tables .slots) u) (count-most isDark (l .threads .base) (l .threads .slots) u) (am .again)
       where
         sums : (x : Tally) {m n r : ℕ} → Paid x p t (q + 1) → x .grayTables ≤ m → x .darkThreads ≤ n → m + n + 1 ≤ r → x .again < r
         sums x h f g i = omega (arith, h .again, f, g, i)
 
-        room : lengthOf (l .grayagain) u < l .grayagain .room
-        room = sums (tally l u) (h .paid) (count-most isGray (l .tables .base) (l .tables .slots) u) (count-most isDark (l .threads .base) (l .threads .slots) u) (am .again)
+    pub again-whole : {p t q : ℕ} (x : Item) {u : List ℕ} → kindOf x ≢ 5 → Whole l p t (q + 1) w u → Whole l p t q w (push (l .grayagain) x u)
+    again-whole {p} {t} {q} x {u} n h = record {
+      long = push-long (l .grayagain) x u (work-room l ok a grayagain u (whole-long h)) ∙ h .long;
+      mark = push-unmarked (l .grayagain) x u (work-room l ok a grayagain u (whole-long h)) (mark-apart l ok a grayagain) (again-fits p t q u h) ∙ h .mark;
+      paid = latter x u p t q (whole-long h) (again-fits p t q u h) n (h .paid);
+    }
+
+    -- Emptying grayagain leaves the other lists paid for.
+    pub cleared-whole : {p t q : ℕ} {u : List ℕ} → Whole l p t q w u → Whole l p t q w (cleared (l .grayagain) u)
+    unfolding itemsTo
+    cleared-whole {p} {t} {q} {u} h =
+        let v = cleared (l .grayagain) u in
+        let s = cleared-only l ok a grayagain u (whole-long h) in
+        let y = other-same l ok a grayagain gray tt u v s in
+        let z = other-same l ok a grayagain weak tt u v s in
+        let n = cleared-length (l .grayagain) u (work-room l ok a grayagain u (whole-long h)) in
+        record {
+          long = moves-marked l ok a (emptied (still refl) grayagain refl) (whole-long h) .long ∙ h .long;
+          mark = cleared-kept (l .grayagain) u (work-room l ok a grayagain u (whole-long h)) damage (λ e. omega (arith, e, o .grayagain)) (inl (omega (arith, o .header, a))) ∙ h .mark;
+          paid = paid-less (tally l u) (tally l v) (h .paid) (le-of (y .0)) (le-of (z .0)) (none n) (le-of (y .1 5)) (le-of (y .1 8)) (le-of (y .1 9))
+              (none (ap (λ (k : ℕ). itemsTo (l .grayagain) 5 k v) n))
+              (ge-of (count-same isDark (l .tables .base) (l .tables .slots) u v (colours-same l ok a grayagain u v s 1)))
+              (ge-of (count-same isDark (l .functions .base) (l .functions .slots) u v (colours-same l ok a grayagain u v s 2)))
+              (ge-of (count-same isDark (l .threads .base) (l .threads .slots) u v (colours-same l ok a grayagain u v s 5)))
+              (ge-of (count-same isGray (l .tables .base) (l .tables .slots) u v (colours-same l ok a grayagain u v s 1)));
+        }
+      where
+        none : {x y : ℕ} → x ≡ 0 → x ≤ y
+        none e = omega (arith, e)
