@@ -77,7 +77,7 @@ module _ (l : Lay) (ok : Laid l) (a : Apart l) where
   o = order l ok a
 
   -- Items moved up within the queue leave all words below it, and the words stay as many.
-  shifted-below : (start c k : ℕ) (w : List ℕ) → (length (shifted l start c k w .1) ≡ length w) × ((q : ℕ) → q < l .queue .base → at (shifted l start c k w .1) q ≡ at w q)
+  pub shifted-below : (start c k : ℕ) (w : List ℕ) → (length (shifted l start c k w .1) ≡ length w) × ((q : ℕ) → q < l .queue .base → at (shifted l start c k w .1) q ≡ at w q)
   unfolding shifted
   shifted-below start c zero w = (refl, λ q h. refl)
   shifted-below start c (suc k) w =
@@ -96,7 +96,8 @@ module _ (l : Lay) (ok : Laid l) (a : Apart l) where
       go true z = z
       go false z = (refl, λ q h. refl)
 
-  placed-below : (start k : ℕ) (r : UdRef) (w : List ℕ) → (length (placed l start k r w) ≡ length w) × ((q : ℕ) → q < l .queue .base → at (placed l start k r w) q ≡ at w q)
+  -- So does putting one in its place.
+  pub placed-below : (start k : ℕ) (r : UdRef) (w : List ℕ) → (length (placed l start k r w) ≡ length w) × ((q : ℕ) → q < l .queue .base → at (placed l start k r w) q ≡ at w q)
   unfolding placed
   placed-below start k r w =
       let x = shifted l start (creationOf l r w) k w in
@@ -105,11 +106,12 @@ module _ (l : Lay) (ok : Laid l) (a : Apart l) where
         λ q h. put3-kept (place (l .queue) (x .0)) 7 (r .0) (r .1) (x .1) q (inl (omega (arith, h))) ∙ s .1 q h,
       )
 
-  queue-mark : lists.Apart (l .queue)
+  -- The damage mark lies apart from the queue.
+  pub queue-mark : lists.Apart (l .queue)
   queue-mark = record { below = omega (arith, o .header, a); other = λ e. omega (arith, e, queue-count l ok) }
 
   -- A userdata is queued where there is room: one item more, and nothing else changes below.
-  queued-held : (start : ℕ) (r : UdRef) (w : List ℕ) → l .words ≤ length w → lengthOf (l .queue) w < l .queue .room → Held l w (queued l start r w) × (lengthOf (l .queue) (queued l start r w) ≡ lengthOf (l .queue) w + 1)
+  pub queued-held : (start : ℕ) (r : UdRef) (w : List ℕ) → l .words ≤ length w → lengthOf (l .queue) w < l .queue .room → Held l w (queued l start r w) × (lengthOf (l .queue) (queued l start r w) ≡ lengthOf (l .queue) w + 1)
   unfolding queued
   queued-held start r w long room =
       subst (λ x. Held l w x × (lengthOf (l .queue) x ≡ lengthOf (l .queue) w + 1))
@@ -133,7 +135,7 @@ module _ (l : Lay) (ok : Laid l) (a : Apart l) where
       go q d h (no e) = push-kept (l .queue) (Userdata r) w (queue-room l w ok long) q d e (inl h)
 
   -- Set finalized, gray, and queued.
-  enqueue-held : (start i : ℕ) (w : List ℕ) → l .words ≤ length w → i < l .userdata .slots → lengthOf (l .queue) w < l .queue .room
+  pub enqueue-held : (start i : ℕ) (w : List ℕ) → l .words ≤ length w → i < l .userdata .slots → lengthOf (l .queue) w < l .queue .room
       → Held l w (enqueue l start i w) × (lengthOf (l .queue) (enqueue l start i w) ≡ lengthOf (l .queue) w + 1)
   unfolding enqueue
   enqueue-held start i w long h room =
