@@ -14,6 +14,17 @@ pub reach-more : {Node : Type 0} {Link : Node → Node → Type 0} {Root Root′
 reach-more f (Reach·root {i = i} r o) = Reach·root (f i r) o
 reach-more f (Reach·step h l o) = Reach·step (reach-more f h) l o
 
+-- what is reached is occupied
+pub reach-occ : {Node : Type 0} {Link : Node → Node → Type 0} {Root Occ : Node → Type 0} {i : Node} → Reach Link Root Occ i → Occ i
+reach-occ (Reach·root r o) = o
+reach-occ (Reach·step h l o) = o
+
+-- the same links among the same occupied nodes reach the same
+pub reach-map : {Node : Type 0} {Link Link′ : Node → Node → Type 0} {Root Occ Occ′ : Node → Type 0}
+    → ((i : Node) → Occ i → Occ′ i) → ((i j : Node) → Occ i → Link i j → Link′ i j) → {i : Node} → Reach Link Root Occ i → Reach Link′ Root Occ′ i
+reach-map f g (Reach·root {i = i} r o) = Reach·root r (f i o)
+reach-map f g (Reach·step {i = i} {j = j} h l o) = Reach·step (reach-map f g h) (g i j (reach-occ h) l) (f j o)
+
 -- marked, or still on the list of what is to be marked
 abbrev pub Done : {Node : Type 0} (Occ : Node → Type 0) → (Node → ℕ) → (Node → Type 0) → Node → Type 0
 Done Occ M E j = Occ j → E j ⊎ (3 ≤ M j)
