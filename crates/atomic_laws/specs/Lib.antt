@@ -1,0 +1,6 @@
+pub mod Kept
+pub mod InQueue
+pub mod Bodies
+pub mod Separates
+pub mod Dues
+pub mod Finishes

@@ -1,0 +1,12 @@
+pub mod Pends
+pub mod Counts
+pub mod Tallies
+pub mod Frames
+pub mod Paints
+pub mod Payments
+pub mod Steps
+pub mod Cycles
+pub mod Walks
+pub mod Queues
+pub mod Flips
+pub mod Atomics
