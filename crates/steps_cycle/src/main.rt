@@ -5,7 +5,6 @@
 // stored output were made.
 use accounts::Answer;
 use lines::number_at;
-use lists::Item;
 use print::count;
 use print::long;
 use print::say;
@@ -15,7 +14,6 @@ use reads::Main;
 use reads::Read;
 use reads::Which;
 use value::UdRef;
-use value::Value;
 ghost use Prim.Native.Nat.{_≤_};
 ghost use lib.ListN.{length};
 
@@ -96,55 +94,6 @@ fn start(w: &mut [u32; 9187], b: &mut [u8; 1024], s: &[u8]) {
     }
 }
 
-// A handle after its kind.
-fn handle(kind: &[u8], index: u32, generation: u32) {
-    count(kind, index, b".");
-    count(b"", generation, b"");
-}
-
-fn say_value(v: Value) {
-    match v {
-        Value::Nil => say(b"nil"),
-        Value::Boolean(_) => say(b"a boolean"),
-        Value::Light(_) => say(b"a light userdata"),
-        Value::Number(_) => say(b"a number"),
-        Value::Str(r) => handle(b"string ", r.0, r.1),
-        Value::Table(r) => handle(b"table ", r.0, r.1),
-        Value::Function(r) => handle(b"function ", r.0, r.1),
-        Value::Userdata(r) => handle(b"userdata ", r.0, r.1),
-        Value::Thread(r) => handle(b"thread ", r.0, r.1),
-    }
-}
-
-fn say_item(x: Item) {
-    match x {
-        Item::Table(r) => say_value(Value::Table(r)),
-        Item::Function(r) => say_value(Value::Function(r)),
-        Item::Userdata(r) => say_value(Value::Userdata(r)),
-        Item::Thread(r) => say_value(Value::Thread(r)),
-        Item::Main => say(b"main"),
-        Item::Unknown => say(b"unknown"),
-    }
-}
-
-fn say_answer(a: Answer) {
-    match a {
-        Answer::Stepped(c) => long(b"a step of cost ", c as u64, b"\n"),
-        Answer::Unfinished => say(b"unfinished\n"),
-        Answer::Ended => say(b"the cycle ended\n"),
-        Answer::Passed => say(b"passed\n"),
-        Answer::Handed(r, v) => {
-            say_value(Value::Userdata(r));
-            say(b" is handed out with ");
-            say_value(v);
-            say(b"\n");
-        }
-        Answer::Busy => say(b"busy\n"),
-        Answer::Failed => say(b"failed\n"),
-        Answer::Refused(n) => count(b"refused ", n, b"\n"),
-    }
-}
-
 // What a read gives as a number.
 fn number(r: Read) -> u64 {
     match r {
@@ -187,7 +136,7 @@ fn listed(w: &[u32], b: &[u8], which: Which, i: u32) {
         say(b", ");
     }
     match reads::read_list(w, b, which, Listed::At(i)) {
-        Read::Item(x) => say_item(x),
+        Read::Item(x) => print_answer::item(x),
         _ => say(b"no item"),
     }
 }
@@ -224,7 +173,7 @@ fn lists(w: &[u32], b: &[u8]) {
 
 // What is written after each call.
 fn show(w: &[u32], b: &[u8], a: Answer) {
-    say_answer(a);
+    print_answer::answer(a);
     counters(w, b);
     lists(w, b);
 }
@@ -308,7 +257,7 @@ fn pop(w: &mut [u32; 9187], b: &[u8]) {
         return;
     }
     match reads::read_main(w, b, Main::Stack((top - 1) as u32)) {
-        Read::Value(v) => say_value(v),
+        Read::Value(v) => print_answer::value(v),
         _ => say(b"no value"),
     }
     say(b" is popped\n");
