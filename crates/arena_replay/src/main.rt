@@ -6,15 +6,10 @@ use arena::Freed;
 use arena::Named;
 use arena::Took;
 use libc::STDOUT_FILENO;
-ghost use mathlib.Core.Path.{_≡_};
-ghost use Prim.Native.Nat.{_+_, _≤_, _<_};
+use lines::line_end;
+use lines::number_at;
+ghost use Prim.Native.Nat.{_≤_, _<_};
 ghost use lib.ListN.{length};
-
-// A number, and the place past it.
-pub struct Number {
-    pub value: u32,
-    pub next: usize,
-}
 
 // 24 slots, each with a body of 2 words and 4 bytes: 147 words, 96 bytes.
 const PLACE: Arena = Arena {
@@ -32,77 +27,6 @@ fn say(text: &[u8]) {
 
 fn say_number(n: u64) {
     io::print_decimal(STDOUT_FILENO, n);
-}
-
-// The place of the first digit at or past `at`, before the line's end, or that end.
-fn digits_at(s: &[u8], at: usize) -> usize
-    requires { ⌜ at ≤ length (now s) ⌝ }
-    ensures { λ r. ⌜ (at ≤ r) × (r ≤ length (now (s .entry))) ⌝ }
-{
-    let mut i = at;
-    while i < s.len() {
-        let c = s[i];
-        if (b'0' <= c) & (c <= b'9') {
-            return i;
-        }
-        if c == b'\n' {
-            return i;
-        }
-        i += 1;
-    }
-    i
-}
-
-fn wide8(x: u8) -> u64
-    ensures { λ r. ⌜ (r ≡ x) × (r < 256) ⌝ }
-{
-    x as u64
-}
-
-// A number with one more digit, which stops at 32 bits.
-fn longer(value: u32, digit: u8) -> u32 {
-    let long = (value as u64) * 10 + wide8(digit);
-    if long < 4294967296 {
-        long as u32
-    } else {
-        4294967295
-    }
-}
-
-// The number at or past `at` on this line, 0 if there is none.
-fn number_at(s: &[u8], at: usize) -> Number
-    requires { ⌜ at ≤ length (now s) ⌝ }
-    ensures { λ r. ⌜ (at ≤ r .next) × (r .next ≤ length (now (s .entry))) ⌝ }
-{
-    let mut i = digits_at(s, at);
-    let mut value: u32 = 0;
-    while i < s.len() {
-        let c = s[i];
-        if c < b'0' {
-            return Number { value, next: i };
-        }
-        if b'9' < c {
-            return Number { value, next: i };
-        }
-        value = longer(value, c - b'0');
-        i += 1;
-    }
-    Number { value, next: i }
-}
-
-// The place past this line's end.
-fn line_end(s: &[u8], at: usize) -> usize
-    requires { ⌜ at < length (now s) ⌝ }
-    ensures { λ r. ⌜ (at < r) × (r ≤ length (now (s .entry))) ⌝ }
-{
-    let mut i = at;
-    while i < s.len() {
-        if s[i] == b'\n' {
-            return i + 1;
-        }
-        i += 1;
-    }
-    i
 }
 
 fn take(w: &mut [u32; 147], colour: u32) {

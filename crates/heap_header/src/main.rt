@@ -6,6 +6,7 @@ use newheap::Made;
 use print::count;
 use print::long;
 use print::say;
+use print::signed;
 ghost use Prim.Native.Nat.{_+_, _≤_, _<_};
 ghost use lib.ListN.{length};
 
@@ -82,27 +83,10 @@ fn limit(w: &[u32])
     }
 }
 
-// The debt is stored plus 2^63.
-fn debt(w: &[u32])
-    requires { ⌜ 91 ≤ length (now w) ⌝ }
-{
-    let n = base::get64(w, layout::DEBT);
-    if n < 9223372036854775808 {
-        long(b"debt: -", 9223372036854775808 - n, b"\n");
-    } else {
-        long(b"debt: ", n - 9223372036854775808, b"\n");
-    }
-}
-
-fn phase(n: u32) {
-    match n {
-        0 => say(b"phase: Pause\n"),
-        1 => say(b"phase: Propagate\n"),
-        2 => say(b"phase: SweepString\n"),
-        3 => say(b"phase: Sweep\n"),
-        4 => say(b"phase: Finalize\n"),
-        _ => say(b"phase: odd\n"),
-    }
+fn phase(n: u64) {
+    say(b"phase: ");
+    print::phase(n);
+    say(b"\n");
 }
 
 fn white(n: u32) {
@@ -161,7 +145,7 @@ fn state(w: &[u32])
     requires { ⌜ 91 ≤ length (now w) ⌝ }
 {
     none(w, b"damage mark: ", layout::DAMAGE, layout::PHASE);
-    phase(base::get(w, layout::PHASE));
+    phase(base::get(w, layout::PHASE) as u64);
     white(base::get(w, layout::WHITE));
     word(w, b"cursor: arena ", layout::CURSOR_ARENA, b"");
     word(w, b", slot ", layout::CURSOR_SLOT, b"\n");
@@ -174,7 +158,7 @@ fn counters(w: &[u32])
     word(w, b"peak: ", layout::PEAK, b"\n");
     word(w, b"estimate: ", layout::ESTIMATE, b"\n");
     long(b"threshold: ", base::get64(w, layout::THRESHOLD), b"\n");
-    debt(w);
+    signed(b"debt: ", base::get64(w, layout::DEBT), b"\n");
 }
 
 fn lists(w: &[u32])

@@ -1,4 +1,4 @@
-// What the programs that show a heap share: a text, a number between two texts, and the sizes of two heaps.
+// What the programs that show a heap share: a text, a number between two texts, a phase's name, and the sizes of two heaps.
 use layout::Sizes;
 use libc::STDOUT_FILENO;
 
@@ -15,6 +15,27 @@ pub fn long(before: &[u8], n: u64, after: &[u8]) {
     say(before);
     io::print_decimal(STDOUT_FILENO, n);
     say(after);
+}
+
+// A number that is stored plus 2^63, as the debt is.
+pub fn signed(before: &[u8], n: u64, after: &[u8]) {
+    say(before);
+    if n < 9223372036854775808 {
+        long(b"-", 9223372036854775808 - n, after);
+    } else {
+        long(b"", n - 9223372036854775808, after);
+    }
+}
+
+pub fn phase(n: u64) {
+    match n {
+        0 => say(b"Pause"),
+        1 => say(b"Propagate"),
+        2 => say(b"SweepString"),
+        3 => say(b"Sweep"),
+        4 => say(b"Finalize"),
+        _ => say(b"odd"),
+    }
 }
 
 // The smallest heap: two names, two tables, one frame.

@@ -17,7 +17,9 @@ fn none(empty: bool) -> &'static str {
     if empty { "none" } else { "some" }
 }
 
-fn phase(phase: Phase) -> &'static str {
+/// The name of a phase.
+#[must_use]
+pub fn phase(phase: Phase) -> &'static str {
     match phase {
         Phase::Pause => "Pause",
         Phase::Propagate => "Propagate",

@@ -3,7 +3,8 @@
 //! [`heap::words`] transcribes a heap of the oracle into the two buffers that ours has for it.
 //! [`compare`] makes each step of a driven oracle on them too, through an [`Engine`]: ours, or a
 //! [`StandIn`] as long as there is no library of the steps. [`heaps`] does so on random heaps and
-//! [`shrink`] makes short scripts of what differs; [`names`] says what a word is.
+//! [`shrink`] makes short scripts of what differs; [`names`] says what a word is. [`cycle`] says what
+//! the program steps_cycle reads and prints.
 //!
 //! The feature `engine_steps` links ours: `rt staticlib step_engine` at the repository's root, then
 //! `cargo run --offline --release -p steps --features engine_steps --bin compare_steps`.
@@ -11,6 +12,7 @@
 #![cfg_attr(not(feature = "engine_steps"), forbid(unsafe_code))]
 
 pub mod compare;
+pub mod cycle;
 pub mod engine;
 pub mod heaps;
 pub mod names;

@@ -1,9 +1,9 @@
--- `arena_replay::number_at` meets its contract: what is left of the loop gives the whole. Assumes nothing.
+-- `lines::number_at` meets its contract: what is left of the loop gives the whole. Assumes nothing.
 use Prim.Native.Nat.{_≤_, _-_}
 use borrow.Author.Needs.{needs}
 use lib.ListN.{length}
-use Rattle.arena_replay.proofs.number_at.Statement.{statement}
-use Rattle.arena_replay.proofs.number_at.Tie as tie
+use Rattle.lines.proofs.number_at.Statement.{statement}
+use Rattle.lines.proofs.number_at.Tie as tie
 
 abbrev Inv-loop : tie.InvT-loop
 Inv-loop s at i₀ value₀ i value = (at ≤ i) × (i ≤ length s)

@@ -1,27 +1,26 @@
--- `arena_replay::line_end` meets its contract: what is left of the loop gives the whole. Assumes nothing.
-use Prim.Native.Nat.{_≤_, _-_}
+-- `steps_cycle::fill` meets its contract: the measure is what is left of the words. Assumes nothing.
+use Prim.Native.Nat.{_-_}
 use borrow.Author.Needs.{needs}
-use lib.ListN.{length}
-use Rattle.arena_replay.proofs.line_end.Statement.{statement}
-use Rattle.arena_replay.proofs.line_end.Tie as tie
+use Rattle.steps_cycle.proofs.fill.Statement.{statement}
+use Rattle.steps_cycle.proofs.fill.Tie as tie
 
 abbrev Inv-loop : tie.InvT-loop
-Inv-loop s at i₀ i = (at ≤ i) × (i ≤ length s)
+Inv-loop w₀ from end x i₀ w i = Unit {0}
 
 abbrev μ-loop : tie.MeasureT-loop
-μ-loop s at i₀ i = length s - i
+μ-loop w₀ from end x i₀ w i = end - i
 
 loop-holds : tie.Need-loop-holds Inv-loop μ-loop
 loop-holds c = search needs
 
-shared-slice-read-if1 : tie.Need-shared-slice-read-if1 Inv-loop μ-loop
-shared-slice-read-if1 c = search needs
-
-add-result : tie.Need-add-result Inv-loop μ-loop
-add-result c = search needs
-
 returns : tie.Need-returns Inv-loop μ-loop
 returns c = search needs
+
+mul-w : tie.Need-mul-w Inv-loop μ-loop
+mul-w c = search needs
+
+element-write-w : tie.Need-element-write-w Inv-loop μ-loop
+element-write-w c = search needs
 
 add-i : tie.Need-add-i Inv-loop μ-loop
 add-i c = search needs
@@ -35,16 +34,16 @@ loop-again c = search needs
 returns-2 : tie.Need-returns-2 Inv-loop μ-loop
 returns-2 c = search needs
 
-pub line-end-spec : {M : Type 1} → statement M
-line-end-spec =
+pub fill-spec : {M : Type 1} → statement M
+fill-spec =
     tie.close
     (tie.spec
     Inv-loop
     μ-loop
     loop-holds
-    shared-slice-read-if1
-    add-result
     returns
+    mul-w
+    element-write-w
     add-i
     loop-less
     loop-again
