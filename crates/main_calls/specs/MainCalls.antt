@@ -1,19 +1,17 @@
--- The calls that change the main open list, the frames, the error value and the hook function: 1 and 8 as every call, then 4,
--- then 2. No barrier: the main thread is marked again in the atomic phase. Assumes nothing.
+-- The calls that change the main open list, the error value and the hook function: 1 and 8 as every call, then 4, then 2. No
+-- barrier: the main thread is marked again in the atomic phase. Assumes nothing.
 use mathlib.Core.List.{List}
 use Prim.Native.Nat.{ℕ}
-use Rattle.base.specs.Ways.{ifLt, ifLe}
 use Rattle.base.specs.Heap.{Heap}
 use Rattle.value.specs.declared.UpvalRef.{UpvalRef}
 use Rattle.value.specs.declared.Value.{Value}
 use Rattle.layout.specs.declared.Lay.{Lay}
 use Rattle.layout.specs.Places.{ERROR, HOOK}
-use Rattle.main_record.specs.Main.{setMainCi, setFrameFunction}
 use Rattle.test1.specs.Calls.{call, inWords}
 use Rattle.given.specs.declared.Served.{Served}
-use Rattle.given.specs.declared.Served.the-variants.{Done, Refused}
+use Rattle.given.specs.declared.Served.the-variants.{Refused}
 use Rattle.stacks.specs.Places.{storeValue}
-use Rattle.stacks.specs.Upvalues.{pushUpvalue, cutUpvalues}
+use Rattle.upvalue_lists.specs.Lists.{pushUpvalue, cutUpvalues}
 use Rattle.owners.specs.Owners.{mainOpens}
 
 -- A push onto a full list is 4, a handle that names no upvalue 2.
@@ -29,23 +27,6 @@ openCutIn n l w = cutUpvalues (mainOpens l w) n w
 
 unfoldable pub openCut : ℕ → Heap → Served × Heap
 openCut n h = call Refused (inWords (openCutIn n)) h
-
--- Frames 1 to 32, function index 0 to 256: 4 outside its range.
-unfoldable pub setFrameIn : ℕ → ℕ → Lay → List ℕ → Served × List ℕ
-setFrameIn i n l w =
-    ifLe (l .frames .room) i (Refused 4, w)
-    (ifLt 256 n (Refused 4, w)
-    (Done, setFrameFunction l i n w))
-
-unfoldable pub setFrame : ℕ → ℕ → Heap → Served × Heap
-setFrame i n h = call Refused (inWords (setFrameIn i n)) h
-
--- The current frame is one of the frames, else 4.
-unfoldable pub setCiIn : ℕ → Lay → List ℕ → Served × List ℕ
-setCiIn i l w = ifLe (l .frames .room) i (Refused 4, w) (Done, setMainCi i w)
-
-unfoldable pub setCi : ℕ → Heap → Served × Heap
-setCi i h = call Refused (inWords (setCiIn i)) h
 
 -- A value that names no occupied slot of its kind is 2.
 abbrev pub setErrorIn : Value → Lay → List ℕ → Served × List ℕ

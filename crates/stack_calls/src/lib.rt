@@ -15,7 +15,7 @@ pub fn push(w: &mut [u32], b: &[u8], v: Value) -> Served
     match test1::enter(w, b) {
         Opened::Fits(l) => {
             let s = owners::main_stack(w, l);
-            stacks::values::push_value(w, l, s, v)
+            stacks::push_value(w, l, s, v)
         }
         Opened::Refused(n) => Served::Refused(n),
     }
@@ -28,7 +28,7 @@ pub fn pop(w: &mut [u32], b: &[u8]) -> Got
     match test1::enter(w, b) {
         Opened::Fits(l) => {
             let s = owners::main_stack(w, l);
-            stacks::values::pop_value(w, s)
+            stacks::pop_value(w, s)
         }
         Opened::Refused(n) => Got::Refused(n),
     }
@@ -41,7 +41,7 @@ pub fn stack_set(w: &mut [u32], b: &[u8], i: u32, v: Value) -> Served
     match test1::enter(w, b) {
         Opened::Fits(l) => {
             let s = owners::main_stack(w, l);
-            stacks::values::set_value(w, l, s, i, v)
+            stacks::set_value(w, l, s, i, v)
         }
         Opened::Refused(n) => Served::Refused(n),
     }
@@ -54,7 +54,7 @@ pub fn set_top(w: &mut [u32], b: &[u8], n: u32) -> Served
     match test1::enter(w, b) {
         Opened::Fits(l) => {
             let s = owners::main_stack(w, l);
-            stacks::values::set_height(w, s, n)
+            stacks::set_height(w, s, n)
         }
         Opened::Refused(k) => Served::Refused(k),
     }
