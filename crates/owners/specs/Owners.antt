@@ -45,3 +45,12 @@ threadBody l t w = bodyIn (l .threads) (slots.named (l .threads) (t .0) (t .1) w
 abbrev pub Inside : Body → ℕ → Type 0
 Inside (At p) n = p + 268 ≤ n
 Inside Stale n = Unit {0}
+
+-- A handle that names no thread is 2: what rows 5 and 4 say of a thread's record holds only if the thread is named.
+module _ {A : Type 0} (refuse : ℕ → A) (f : ℕ → List ℕ → A × List ℕ) where
+  abbrev pub onBody : List ℕ → Body → A × List ℕ
+  onBody w (At p) = f p w
+  onBody w Stale = (refuse 2, w)
+
+  unfoldable pub onThread : Lay → ThreadRef → List ℕ → A × List ℕ
+  onThread l t w = onBody w (threadBody l t w)
