@@ -1,0 +1,51 @@
+-- `main_calls::open_push` meets its contract: the callees' equations joined. Assumes nothing.
+use mathlib.Core.Path.{_∙_, sym}
+use borrow.Author.Needs.{needs}
+use Rattle.entered.specs.Entered.{entered}
+use Rattle.test1.specs.Calls.{call-refused, call-words}
+use Rattle.main_calls.specs.MainCalls.{openPush}
+use Rattle.main_calls.proofs.open_push.Statement.{statement}
+use Rattle.main_calls.proofs.open_push.Tie as tie
+
+enter-requires : tie.Need-enter-requires
+enter-requires c κs = search needs
+
+enum-known-l : tie.Need-enum-known-l
+enum-known-l c = search needs
+
+main-opens-requires : tie.Need-main-opens-requires
+main-opens-requires c κs = (entered _ _ _ (sym (c .before .before .l .given .1) ∙ c .before .before .before .before .enter .ensures .0), (rw (c .before .before .l .given .1) at (c .before .before .before .before .enter .ensures .1)) .words)
+
+push-upvalue-requires : tie.Need-push-upvalue-requires
+push-upvalue-requires c κs = (entered _ _ _ (sym (c .before .before .before .before .l .given .1) ∙ c .before .before .before .before .before .before .enter .ensures .0), ((rw (c .before .before .before .before .l .given .1) at (c .before .before .before .before .before .before .enter .ensures .1)) .words, c .before .main-opens .ensures .1))
+
+enum-known-n : tie.Need-enum-known-n
+enum-known-n c = search needs
+
+same-length : tie.Need-same-length
+same-length c = search needs
+
+returns : tie.Need-returns
+unfolding openPush
+returns c = call-words _ _ _ _ _ _ _ (c .before .before .before .before .before .before .before .before .before .enter .ensures .0) (c .before .before .before .before .before .before .before .l .given .1) (rw (← c .before .before .before .before .main-opens .ensures .0) (c .before .before .push-upvalue .ensures))
+
+same-length-2 : tie.Need-same-length-2
+same-length-2 c = search needs
+
+returns-2 : tie.Need-returns-2
+unfolding openPush
+returns-2 c = call-refused _ _ _ _ _ (c .before .before .before .enter .ensures .0) (c .before .n .given .1)
+
+pub open-push-spec : {M : Type 1} → statement M
+open-push-spec =
+    tie.close
+    (tie.spec
+    enter-requires
+    enum-known-l
+    main-opens-requires
+    push-upvalue-requires
+    enum-known-n
+    same-length
+    returns
+    same-length-2
+    returns-2)
