@@ -1,10 +1,8 @@
 -- Making a string: document 01, 'Sizes' and 'Refusal numbers'. Over 64 bytes is 4. A string already present answers its
 -- handle, never 6 or 3, and while old white takes the current white. Else it is new: 6, then 3. Assumes nothing.
-use mathlib.Core.Path.{_≡_, ap, _∙_}
-use mathlib.Core.Bool.{Bool, true, false, cond}
+use mathlib.Core.Bool.{Bool, false, cond}
 use mathlib.Core.List.{List}
-use Prim.Native.Nat.{ℕ, zero, suc, _+_, _-_, _*_, _≤_, _<_}
-use native.Mathlib.Omega.{arith}
+use Prim.Native.Nat.{ℕ, _*_, _<_}
 use lib.ListN.{length}
 use Rattle.base.specs.Ways.{ifLt, ifEq}
 use Rattle.base.specs.Words.{at, clear}
@@ -22,6 +20,7 @@ use Rattle.making.specs.declared.Made.the-variants.{Str, Refused}
 use Rattle.making.specs.declared.New.{New}
 use Rattle.making.specs.declared.New.the-variants as new
 use Rattle.making.specs.Making.{newObject}
+use Rattle.making.specs.Turns.{turns}
 use Rattle.make_strings.specs.declared.Found.{Found}
 use Rattle.make_strings.specs.declared.Found.the-variants.{At, Nothing}
 
@@ -31,44 +30,17 @@ holds l s h i =
     ifEq (colour (l .strings) i (h .words)) 0 false
     (sameBytes (textOf i (stringLength (bodyAt (l .strings) i) (h .words)) (h .bytes)) s)
 
--- the first of n slots from i on of which `has` holds
-unfoldable pub findFrom : (ℕ → Bool) → ℕ → ℕ → Found
-findFrom has zero i = Nothing
-findFrom has (suc n) i = cond (has i) (At i) (findFrom has n (i + 1))
+-- The first such slot, in the order of their indices.
+abbrev pub findTurn : Lay → List ℕ → Heap → ℕ → Found → Found
+findTurn l s h i rest = cond (holds l s h i) (At i) rest
 
 abbrev pub findString : Lay → List ℕ → Heap → Found
-findString l s h = findFrom (holds l s h) (used (l .strings) (h .words)) 0
+findString l s h = turns (findTurn l s h) Nothing (used (l .strings) (h .words)) 0
 
 -- what is found lies below n
 abbrev pub Below : Found → ℕ → Type 0
 Below (At i) n = i < n
 Below Nothing n = Unit {0}
-
--- A slot is passed, is found, and there is none left: r is what the whole gives.
-module _ (has : ℕ → Bool) (n : ℕ) where
-  pub find-start : (m : ℕ) → n ≡ m → findFrom has (n - 0) 0 ≡ findFrom has m 0
-  find-start m e =
-      let q : n - 0 ≡ m = omega arith in
-      ap (λ (k : ℕ). findFrom has k 0) q
-
-  module _ (i : ℕ) {r : Found} (rest : findFrom has (n - i) i ≡ r) where
-    step : i < n → cond (has i) (At i) (findFrom has (n - (i + 1)) (i + 1)) ≡ r
-    unfolding findFrom
-    step h =
-        let q : suc (n - (i + 1)) ≡ n - i = omega arith in
-        ap (λ (k : ℕ). findFrom has k i) q ∙ rest
-
-    pub find-again : i < n → has i ≡ false → findFrom has (n - (i + 1)) (i + 1) ≡ r
-    find-again h e = rw e at (step h)
-
-    pub find-found : i < n → has i ≡ true → At i ≡ r
-    find-found h e = rw e at (step h)
-
-    pub find-end : n ≤ i → Nothing ≡ r
-    unfolding findFrom
-    find-end h =
-        let q : zero ≡ n - i = omega arith in
-        ap (λ (k : ℕ). findFrom has k i) q ∙ rest
 
 -- A string found by its bytes while old white takes the current white.
 unfoldable pub kept : Arena → ℕ → List ℕ → List ℕ
