@@ -32,7 +32,7 @@ module _ {A : Type 0} (f : ℕ → A → A) (none : A) where
         let q : zero ≡ n - k = omega arith in
         ap (λ (i : ℕ). turns i k) q ∙ rest
 
-abbrev pub eachTurn : (ℕ → Bool) → ℕ → Bool → Bool
+unfoldable pub eachTurn : (ℕ → Bool) → ℕ → Bool → Bool
 eachTurn test k rest = cond (test k) rest false
 
 abbrev pub each : (ℕ → Bool) → ℕ → Bool
@@ -41,7 +41,9 @@ each test n = turns (eachTurn test) true n 0
 -- a turn that the test passes, and one that it does not
 module _ (test : ℕ → Bool) (n k : ℕ) {r : Bool} (rest : turns (eachTurn test) true (n - k) k ≡ r) where
   pub each-again : k < n → test k ≡ true → turns (eachTurn test) true (n - (k + 1)) (k + 1) ≡ r
+  unfolding eachTurn
   each-again h e = rw e at (turns-step (eachTurn test) true n k rest h)
 
   pub each-stop : k < n → test k ≡ false → false ≡ r
+  unfolding eachTurn
   each-stop h e = rw e at (turns-step (eachTurn test) true n k rest h)
