@@ -1,12 +1,14 @@
 -- What all calls that make an object share: document 01, 'Refusal numbers', rows 6 and 3, and the damage rule. Assumes nothing.
 use mathlib.Core.Bool.{cond}
 use mathlib.Core.List.{List}
-use Prim.Native.Nat.{ℕ, _+_, _≤_, _<_}
+use Prim.Native.Nat.{ℕ, _+_, _*_, _≤_, _<_}
+use Rattle.base.specs.Loop.{run}
 use Rattle.base.specs.Words.{at, put, clear}
 use Rattle.arena.specs.declared.Arena.{Arena}
 use Rattle.arena.specs.declared.Took.{Took}
 use Rattle.arena.specs.declared.Took.the-variants.{Slot, Full, Damaged}
 use Rattle.arena.specs.Slots.{takeSlot}
+use Rattle.value.specs.Values.{valueAt, putValue}
 use Rattle.layout.specs.Places.{DAMAGE, WHITE}
 use Rattle.record.specs.Fields.{bodyAt}
 use Rattle.counters.specs.Count.{wouldPass, countersAt, track}
@@ -39,3 +41,10 @@ Placed (Refused k) a m = Unit {0}
 abbrev pub onNew : (ℕ → ℕ → ℕ → List ℕ → Made × List ℕ) → New × List ℕ → Made × List ℕ
 onNew f (At i g p, w) = f i g p w
 onNew f (Refused k, w) = (made.Refused k, w)
+
+-- A list of n values, three words each, stands from p on. An unknown tag is nil.
+unfoldable pub putOne : ℕ → List ℕ → ℕ → List ℕ → List ℕ
+putOne p s k w = putValue (p + 3 * k) (valueAt s (3 * k)) w
+
+unfoldable pub putValues : ℕ → List ℕ → ℕ → List ℕ → List ℕ
+putValues p s n w = run (putOne p s) 0 n w

@@ -10,11 +10,11 @@ use value::ThreadRef;
 use value::UdRef;
 use value::UpvalRef;
 ghost use mathlib.Core.Path.{_≡_};
-ghost use Prim.Native.Nat.{_+_, _≤_, _<_};
+ghost use Prim.Native.Nat.{_+_, _*_, _≤_, _<_};
 ghost use lib.ListN.{length};
 ghost use Rattle.arena.specs.Slots.{Room};
 ghost use Rattle.record.specs.Fields.{bodyAt};
-ghost use Rattle.making.specs.Making.{begun, newObject, Placed};
+ghost use Rattle.making.specs.Making.{begun, newObject, Placed, putValues};
 
 // What a call that makes something answers: a handle of the kind made, a prototype's number, or a refusal.
 pub enum Made {
@@ -76,5 +76,17 @@ pub fn new_object(w: &mut [u32], a: Arena, size: u32, n: usize) -> New
             base::put(w, layout::DAMAGE, 1);
             New::Refused(8)
         }
+    }
+}
+
+// The n values that the words s hold stand from p on.
+pub fn put_values(w: &mut [u32], p: usize, s: &[u32], n: usize)
+    requires { ⌜ (p + 3 * n ≤ length (now w)) × (3 * n ≤ length (now s)) ⌝ }
+    ensures { λ _. ⌜ now (w .exit) ≡ putValues p (now (s .entry)) n (now (w .entry)) ⌝ }
+{
+    let mut k: usize = 0;
+    while k < n {
+        value::write_value(w, p + 3 * k, value::read_value(s, 3 * k));
+        k += 1;
     }
 }
