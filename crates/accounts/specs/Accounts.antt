@@ -1,10 +1,12 @@
 -- Document 01, 'Steps and pacing': what the header keeps of pacing, and of a finalizer that is out. Assumes nothing.
 use mathlib.Core.List.{List}
-use Prim.Native.Nat.{ℕ, _+_, _-_, _%_, _^_, max}
+use Prim.Native.Nat.{ℕ, _+_, _-_, max}
 use Rattle.base.specs.Ways.{ifLt, ifLe, ifEq}
 use Rattle.base.specs.Words.{at, put, get64, put64, bounded}
+use Rattle.value.specs.declared.UdOr.the-variants.{Absent, Present}
 use Rattle.value.specs.declared.UdRef.{UdRef}
 use Rattle.value.specs.declared.Value.{Value}
+use Rattle.value.specs.Handles.{putUdOr}
 use Rattle.layout.specs.Places.{LIMIT, PAUSE, PHASE, TOTAL, ESTIMATE, THRESHOLD, DEBT, INTERRUPTED, OUT, REMAINING, STRINGS, TABLES, FUNCTIONS, UPVALUES, USERDATA, THREADS}
 use Rattle.pacing.specs.Pacing.{grownDebt, cycleThreshold, stepThreshold, debtAfter, memory}
 use Rattle.accounts.specs.declared.Answer.{Answer}
@@ -45,16 +47,14 @@ stepEnds w =
 unfoldable pub handed : ℕ → UdRef → ℕ → List ℕ → List ℕ
 handed kind r left w =
     let w₁ = put INTERRUPTED kind w in
-    let w₂ = put OUT ((r .0 + 1) % 2 ^ 32) w₁ in
-    let w₃ = put (OUT + 1) (r .1) w₂ in
-    put64 REMAINING left w₃
+    let w₂ = putUdOr OUT (Present r) w₁ in
+    put64 REMAINING left w₂
 
 unfoldable pub takenBack : List ℕ → List ℕ
 takenBack w =
     let w₁ = put INTERRUPTED 0 w in
-    let w₂ = put OUT 0 w₁ in
-    let w₃ = put (OUT + 1) 0 w₂ in
-    put64 REMAINING 0 w₃
+    let w₂ = putUdOr OUT Absent w₁ in
+    put64 REMAINING 0 w₂
 
 -- A budgeted step subtracts each cost and stops at 0 or below, or at Pause.
 unfoldable pub afterCost : ℕ → ℕ → List ℕ → Turn × List ℕ

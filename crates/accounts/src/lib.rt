@@ -1,6 +1,7 @@
 // What the header keeps of pacing (document 01, 'Steps and pacing'): total, estimate, threshold and debt, and a finalizer that is
 // out with what it interrupted. Each function is a few words read and written by the numbers of crates/pacing.
 use pacing::Counts;
+use value::UdOr;
 use value::UdRef;
 use value::Value;
 ghost use mathlib.Core.Path.{_≡_};
@@ -109,8 +110,7 @@ pub fn hand(w: &mut [u32], kind: u32, r: UdRef, left: u64)
     ensures { λ _. ⌜ now (w .exit) ≡ handed kind r left (now (w .entry)) ⌝ }
 {
     base::put(w, layout::INTERRUPTED, kind);
-    base::put(w, layout::OUT, std::num::wrapping_add_u32(r.0, 1));
-    base::put(w, layout::OUT + 1, r.1);
+    value::write_ud_or(w, layout::OUT, UdOr::Present(r));
     base::put64(w, layout::REMAINING, left);
 }
 
@@ -120,8 +120,7 @@ pub fn take_back(w: &mut [u32])
     ensures { λ _. ⌜ now (w .exit) ≡ takenBack (now (w .entry)) ⌝ }
 {
     base::put(w, layout::INTERRUPTED, 0);
-    base::put(w, layout::OUT, 0);
-    base::put(w, layout::OUT + 1, 0);
+    value::write_ud_or(w, layout::OUT, UdOr::Absent);
     base::put64(w, layout::REMAINING, 0);
 }
 

@@ -8,9 +8,10 @@ use Rattle.base.specs.Words.{put}
 use Rattle.value.specs.Values.{tagOf, lowOf, highOf, put3}
 use Rattle.value.specs.declared.TableOr.the-variants as table
 use Rattle.value.specs.declared.StrOr.the-variants as string
+use Rattle.value.specs.declared.UdOr.the-variants as userdata
 use Rattle.lists.specs.Lists.{kindOf, indexOf, generationOf}
 use Rattle.reads.specs.declared.Read.{Read}
-use Rattle.reads.specs.declared.Read.the-variants.{Number, Value, Table, Str, Upvalue, Item, Refused}
+use Rattle.reads.specs.declared.Read.the-variants.{Number, Value, Table, Str, Upvalue, Item, Userdata, Refused}
 use Rattle.codes.specs.declared.Answer.{Answer}
 use Rattle.codes.specs.declared.Answer.the-variants as answer
 
@@ -24,6 +25,8 @@ wordsOf (Str string.Absent) = answer.Words 3 0 0 0
 wordsOf (Str (string.Present r)) = answer.Words 3 1 (r .0) (r .1)
 wordsOf (Upvalue r) = answer.Words 4 (r .0) (r .1) 0
 wordsOf (Item x) = answer.Words 5 (kindOf x) (indexOf x) (generationOf x)
+wordsOf (Userdata userdata.Absent) = answer.Words 6 0 0 0
+wordsOf (Userdata (userdata.Present r)) = answer.Words 6 1 (r .0) (r .1)
 wordsOf (Refused n) = answer.Refused n
 
 -- A refusal leaves the lent words as they were.

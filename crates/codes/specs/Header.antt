@@ -3,20 +3,24 @@
 use mathlib.Core.List.{[], _∷_}
 use Prim.Native.Nat.{ℕ}
 use Rattle.base.specs.Heap.{Heap}
-use Rattle.reads.specs.Reads.{readCounter, readRoot, readMain, readList, readArena}
+use Rattle.reads.specs.Reads.{readCounter, readSize, readRoot}
+use Rattle.part_reads.specs.PartReads.{readMain, readList, readArena}
 use Rattle.reads.specs.declared.Read.{Read}
 use Rattle.reads.specs.declared.Counter.the-variants as counter
+use Rattle.reads.specs.declared.Size.the-variants as size
 use Rattle.reads.specs.declared.Root.the-variants as root
-use Rattle.reads.specs.declared.Main.the-variants as main
-use Rattle.reads.specs.declared.Which.{Which}
-use Rattle.reads.specs.declared.Which.the-variants as which
-use Rattle.reads.specs.declared.Listed.the-variants as listed
+use Rattle.part_reads.specs.declared.Main.the-variants as main
+use Rattle.part_reads.specs.declared.Which.{Which}
+use Rattle.part_reads.specs.declared.Which.the-variants as which
+use Rattle.part_reads.specs.declared.Listed.the-variants as listed
 use Rattle.reads.specs.declared.Kind.{Kind}
 use Rattle.reads.specs.declared.Kind.the-variants as kind
-use Rattle.reads.specs.declared.Slots.the-variants as slots
+use Rattle.part_reads.specs.declared.Slots.the-variants as slots
 use Rattle.codes.specs.Numbers.{pick, noQuestion}
 use Rattle.codes.specs.declared.header.CounterOr.{CounterOr}
 use Rattle.codes.specs.declared.header.CounterOr.the-variants as a-counter
+use Rattle.codes.specs.declared.header.SizeOr.{SizeOr}
+use Rattle.codes.specs.declared.header.SizeOr.the-variants as a-size
 use Rattle.codes.specs.declared.header.RootOr.{RootOr}
 use Rattle.codes.specs.declared.header.RootOr.the-variants as a-root
 use Rattle.codes.specs.declared.header.MainOr.{MainOr}
@@ -43,6 +47,19 @@ counterAsked a-counter.Unknown = noQuestion
 
 unfoldable pub askCounter : ℕ → Heap → Read
 askCounter n = counterAsked (counterOf n)
+
+-- 0 to 9.
+unfoldable pub sizeOf : ℕ → SizeOr
+sizeOf =
+    pick a-size.Unknown a-size.Known (size.Strings ∷ size.Tables ∷ size.Functions ∷ size.Upvalues ∷ size.Userdata
+    ∷ size.Threads ∷ size.Prototypes ∷ size.Stack ∷ size.Opens ∷ size.Frames ∷ [])
+
+abbrev pub sizeAsked : SizeOr → Heap → Read
+sizeAsked (a-size.Known q) = readSize q
+sizeAsked a-size.Unknown = noQuestion
+
+unfoldable pub askSize : ℕ → Heap → Read
+askSize n = sizeAsked (sizeOf n)
 
 -- 0 to 4; 4 is a type's metatable.
 unfoldable pub rootOf : ℕ → ℕ → RootOr

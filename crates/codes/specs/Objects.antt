@@ -10,14 +10,16 @@ use Rattle.value.specs.declared.UpvalRef.{UpvalRef}
 use Rattle.value.specs.declared.UdRef.{UdRef}
 use Rattle.value.specs.declared.ThreadRef.{ThreadRef}
 use Rattle.reads.specs.declared.Read.{Read}
-use Rattle.object_reads.specs.Objects.{readString, readTable, readClosure, readUpvalue, readUserdata, readThread, readProto}
-use Rattle.object_reads.specs.declared.StringField.the-variants as string
-use Rattle.object_reads.specs.declared.TableField.the-variants as table
-use Rattle.object_reads.specs.declared.ClosureField.the-variants as closure
-use Rattle.object_reads.specs.declared.UpvalueField.the-variants as upvalue
-use Rattle.object_reads.specs.declared.UserdataField.the-variants as userdata
-use Rattle.object_reads.specs.declared.ThreadField.the-variants as thread
-use Rattle.object_reads.specs.declared.ProtoField.the-variants as proto
+use Rattle.table_reads.specs.TableReads.{readString, readTable, readUserdata}
+use Rattle.run_reads.specs.RunReads.{readClosure, readUpvalue, readThread}
+use Rattle.proto_reads.specs.ProtoReads.{readProto}
+use Rattle.table_reads.specs.declared.StringField.the-variants as string
+use Rattle.table_reads.specs.declared.TableField.the-variants as table
+use Rattle.run_reads.specs.declared.ClosureField.the-variants as closure
+use Rattle.run_reads.specs.declared.UpvalueField.the-variants as upvalue
+use Rattle.table_reads.specs.declared.UserdataField.the-variants as userdata
+use Rattle.run_reads.specs.declared.ThreadField.the-variants as thread
+use Rattle.proto_reads.specs.declared.ProtoField.the-variants as proto
 use Rattle.codes.specs.Numbers.{pick, noQuestion}
 use Rattle.codes.specs.declared.objects.StringFieldOr.{StringFieldOr}
 use Rattle.codes.specs.declared.objects.StringFieldOr.the-variants as a-string

@@ -1,20 +1,26 @@
 // The header and the slots asked by number. An index that a question has no use for is not looked at.
+use part_reads::Listed;
+use part_reads::Main;
+use part_reads::Slots;
+use part_reads::Which;
 use reads::Counter;
 use reads::Kind;
-use reads::Listed;
-use reads::Main;
 use reads::Read;
 use reads::Root;
-use reads::Slots;
-use reads::Which;
+use reads::Size;
 ghost use mathlib.Core.Path.{_≡_};
 ghost use Rattle.base.specs.Heap.{heap};
-ghost use Rattle.codes.specs.Header.{counterOf, askCounter, rootOf, askRoot, mainOf, askMain, whichOf, listedOf, askList, kindOf, slotsOf, askArena};
+ghost use Rattle.codes.specs.Header.{counterOf, askCounter, sizeOf, askSize, rootOf, askRoot, mainOf, askMain, whichOf, listedOf, askList, kindOf, slotsOf, askArena};
 
 // What a number asks, or that it asks nothing: one for each question.
 pub enum CounterOr {
     Unknown,
     Known(Counter),
+}
+
+pub enum SizeOr {
+    Unknown,
+    Known(Size),
 }
 
 pub enum RootOr {
@@ -68,6 +74,24 @@ pub fn counter_of(n: u32) -> CounterOr
         14 => CounterOr::Known(Counter::Interrupted),
         15 => CounterOr::Known(Counter::Remaining),
         _ => CounterOr::Unknown,
+    }
+}
+
+pub fn size_of(n: u32) -> SizeOr
+    ensures { λ r. ⌜ r ≡ sizeOf n ⌝ }
+{
+    match n {
+        0 => SizeOr::Known(Size::Strings),
+        1 => SizeOr::Known(Size::Tables),
+        2 => SizeOr::Known(Size::Functions),
+        3 => SizeOr::Known(Size::Upvalues),
+        4 => SizeOr::Known(Size::Userdata),
+        5 => SizeOr::Known(Size::Threads),
+        6 => SizeOr::Known(Size::Prototypes),
+        7 => SizeOr::Known(Size::Stack),
+        8 => SizeOr::Known(Size::Opens),
+        9 => SizeOr::Known(Size::Frames),
+        _ => SizeOr::Unknown,
     }
 }
 
@@ -159,6 +183,15 @@ pub fn ask_counter(w: &[u32], b: &[u8], n: u32) -> Read
     }
 }
 
+pub fn ask_size(w: &[u32], b: &[u8], n: u32) -> Read
+    ensures { λ r. ⌜ r ≡ askSize n (heap (now (w .entry)) (now (b .entry))) ⌝ }
+{
+    match size_of(n) {
+        SizeOr::Known(q) => reads::read_size(w, b, q),
+        SizeOr::Unknown => crate::no_question(w, b),
+    }
+}
+
 pub fn ask_root(w: &[u32], b: &[u8], n: u32, k: u32) -> Read
     ensures { λ r. ⌜ r ≡ askRoot n k (heap (now (w .entry)) (now (b .entry))) ⌝ }
 {
@@ -172,7 +205,7 @@ pub fn ask_main(w: &[u32], b: &[u8], n: u32, i: u32) -> Read
     ensures { λ r. ⌜ r ≡ askMain n i (heap (now (w .entry)) (now (b .entry))) ⌝ }
 {
     match main_of(n, i) {
-        MainOr::Known(q) => reads::read_main(w, b, q),
+        MainOr::Known(q) => part_reads::read_main(w, b, q),
         MainOr::Unknown => crate::no_question(w, b),
     }
 }
@@ -182,7 +215,7 @@ pub fn ask_list(w: &[u32], b: &[u8], l: u32, n: u32, i: u32) -> Read
 {
     match which_of(l) {
         WhichOr::Known(which) => match listed_of(n, i) {
-            ListedOr::Known(q) => reads::read_list(w, b, which, q),
+            ListedOr::Known(q) => part_reads::read_list(w, b, which, q),
             ListedOr::Unknown => crate::no_question(w, b),
         },
         WhichOr::Unknown => crate::no_question(w, b),
@@ -194,7 +227,7 @@ pub fn ask_arena(w: &[u32], b: &[u8], a: u32, n: u32, i: u32) -> Read
 {
     match kind_of(a) {
         KindOr::Known(k) => match slots_of(n, i) {
-            SlotsOr::Known(q) => reads::read_arena(w, b, k, q),
+            SlotsOr::Known(q) => part_reads::read_arena(w, b, k, q),
             SlotsOr::Unknown => crate::no_question(w, b),
         },
         KindOr::Unknown => crate::no_question(w, b),

@@ -5,6 +5,7 @@ use lists::Item;
 use reads::Read;
 use value::StrOr;
 use value::TableOr;
+use value::UdOr;
 use value::Value;
 
 pub mod header;
@@ -56,6 +57,15 @@ fn str_words(s: StrOr) -> Answer
     }
 }
 
+fn ud_words(d: UdOr) -> Answer
+    ensures { λ r. ⌜ r ≡ wordsOf (read.Userdata d) ⌝ }
+{
+    match d {
+        UdOr::Absent => Answer::Words(6, 0, 0, 0),
+        UdOr::Present(r) => Answer::Words(6, 1, r.0, r.1),
+    }
+}
+
 fn item_words(x: Item) -> Answer
     ensures { λ r. ⌜ r ≡ wordsOf (read.Item x) ⌝ }
 {
@@ -77,6 +87,7 @@ fn words_of(r: Read) -> Answer
         Read::Str(s) => str_words(s),
         Read::Upvalue(u) => Answer::Words(4, u.0, u.1, 0),
         Read::Item(x) => item_words(x),
+        Read::Userdata(d) => ud_words(d),
         Read::Refused(n) => Answer::Refused(n),
     }
 }

@@ -1,13 +1,13 @@
 // The fields of objects asked by number, the object by its handle, index x and generation g. An index that a field has no
 // use for is not looked at.
-use object_reads::ClosureField;
-use object_reads::ProtoField;
-use object_reads::StringField;
-use object_reads::TableField;
-use object_reads::ThreadField;
-use object_reads::UpvalueField;
-use object_reads::UserdataField;
+use proto_reads::ProtoField;
 use reads::Read;
+use run_reads::ClosureField;
+use run_reads::ThreadField;
+use run_reads::UpvalueField;
+use table_reads::StringField;
+use table_reads::TableField;
+use table_reads::UserdataField;
 use value::FuncRef;
 use value::StrRef;
 use value::TableRef;
@@ -149,7 +149,7 @@ pub fn ask_string(w: &[u32], b: &[u8], x: u32, g: u32, n: u32, i: u32) -> Read
     ensures { λ r. ⌜ r ≡ askString x g n i (heap (now (w .entry)) (now (b .entry))) ⌝ }
 {
     match string_field_of(n, i) {
-        StringFieldOr::Known(q) => object_reads::read_string(w, b, StrRef(x, g), q),
+        StringFieldOr::Known(q) => table_reads::read_string(w, b, StrRef(x, g), q),
         StringFieldOr::Unknown => crate::no_question(w, b),
     }
 }
@@ -158,7 +158,7 @@ pub fn ask_table(w: &[u32], b: &[u8], x: u32, g: u32, n: u32, i: u32) -> Read
     ensures { λ r. ⌜ r ≡ askTable x g n i (heap (now (w .entry)) (now (b .entry))) ⌝ }
 {
     match table_field_of(n, i) {
-        TableFieldOr::Known(q) => object_reads::read_table(w, b, TableRef(x, g), q),
+        TableFieldOr::Known(q) => table_reads::read_table(w, b, TableRef(x, g), q),
         TableFieldOr::Unknown => crate::no_question(w, b),
     }
 }
@@ -167,7 +167,7 @@ pub fn ask_closure(w: &[u32], b: &[u8], x: u32, g: u32, n: u32, i: u32) -> Read
     ensures { λ r. ⌜ r ≡ askClosure x g n i (heap (now (w .entry)) (now (b .entry))) ⌝ }
 {
     match closure_field_of(n, i) {
-        ClosureFieldOr::Known(q) => object_reads::read_closure(w, b, FuncRef(x, g), q),
+        ClosureFieldOr::Known(q) => run_reads::read_closure(w, b, FuncRef(x, g), q),
         ClosureFieldOr::Unknown => crate::no_question(w, b),
     }
 }
@@ -176,7 +176,7 @@ pub fn ask_upvalue(w: &[u32], b: &[u8], x: u32, g: u32, n: u32) -> Read
     ensures { λ r. ⌜ r ≡ askUpvalue x g n (heap (now (w .entry)) (now (b .entry))) ⌝ }
 {
     match upvalue_field_of(n) {
-        UpvalueFieldOr::Known(q) => object_reads::read_upvalue(w, b, UpvalRef(x, g), q),
+        UpvalueFieldOr::Known(q) => run_reads::read_upvalue(w, b, UpvalRef(x, g), q),
         UpvalueFieldOr::Unknown => crate::no_question(w, b),
     }
 }
@@ -185,7 +185,7 @@ pub fn ask_userdata(w: &[u32], b: &[u8], x: u32, g: u32, n: u32) -> Read
     ensures { λ r. ⌜ r ≡ askUserdata x g n (heap (now (w .entry)) (now (b .entry))) ⌝ }
 {
     match userdata_field_of(n) {
-        UserdataFieldOr::Known(q) => object_reads::read_userdata(w, b, UdRef(x, g), q),
+        UserdataFieldOr::Known(q) => table_reads::read_userdata(w, b, UdRef(x, g), q),
         UserdataFieldOr::Unknown => crate::no_question(w, b),
     }
 }
@@ -194,7 +194,7 @@ pub fn ask_thread(w: &[u32], b: &[u8], x: u32, g: u32, n: u32, i: u32) -> Read
     ensures { λ r. ⌜ r ≡ askThread x g n i (heap (now (w .entry)) (now (b .entry))) ⌝ }
 {
     match thread_field_of(n, i) {
-        ThreadFieldOr::Known(q) => object_reads::read_thread(w, b, ThreadRef(x, g), q),
+        ThreadFieldOr::Known(q) => run_reads::read_thread(w, b, ThreadRef(x, g), q),
         ThreadFieldOr::Unknown => crate::no_question(w, b),
     }
 }
@@ -203,7 +203,7 @@ pub fn ask_proto(w: &[u32], b: &[u8], p: u32, n: u32, i: u32) -> Read
     ensures { λ r. ⌜ r ≡ askProto p n i (heap (now (w .entry)) (now (b .entry))) ⌝ }
 {
     match proto_field_of(n, i) {
-        ProtoFieldOr::Known(q) => object_reads::read_proto(w, b, p, q),
+        ProtoFieldOr::Known(q) => proto_reads::read_proto(w, b, p, q),
         ProtoFieldOr::Unknown => crate::no_question(w, b),
     }
 }

@@ -6,11 +6,13 @@ use codes::header::ask_counter;
 use codes::header::ask_list;
 use codes::header::ask_main;
 use codes::header::ask_root;
+use codes::header::ask_size;
 use codes::tell;
 ghost use mathlib.Core.Path.{_≡_};
 ghost use Rattle.base.specs.Heap.{heap};
 ghost use Rattle.codes.specs.Answers.{told};
-ghost use Rattle.codes.specs.Header.{askCounter, askRoot, askMain, askList, askArena};
+ghost use Rattle.reads.specs.Reads.{readOut};
+ghost use Rattle.codes.specs.Header.{askCounter, askSize, askRoot, askMain, askList, askArena};
 
 // A counter, setting or mark.
 #[no_mangle]
@@ -18,6 +20,22 @@ pub extern "C" fn sieddesan_read_counter(w: &[u32], b: &[u8], counter: u32, out:
     ensures { λ r. ⌜ (r, now (out .exit)) ≡ told (askCounter counter (heap (now (w .entry)) (now (b .entry)))) (now (out .entry)) ⌝ }
 {
     tell(out, ask_counter(w, b, counter))
+}
+
+// One of the ten sizes.
+#[no_mangle]
+pub extern "C" fn sieddesan_read_size(w: &[u32], b: &[u8], size: u32, out: &mut [u32]) -> u32
+    ensures { λ r. ⌜ (r, now (out .exit)) ≡ told (askSize size (heap (now (w .entry)) (now (b .entry)))) (now (out .entry)) ⌝ }
+{
+    tell(out, ask_size(w, b, size))
+}
+
+// The userdata whose finalizer is out.
+#[no_mangle]
+pub extern "C" fn sieddesan_read_out(w: &[u32], b: &[u8], out: &mut [u32]) -> u32
+    ensures { λ r. ⌜ (r, now (out .exit)) ≡ told (readOut (heap (now (w .entry)) (now (b .entry)))) (now (out .entry)) ⌝ }
+{
+    tell(out, reads::read_out(w, b))
 }
 
 // A root that is a handle.

@@ -9,6 +9,8 @@ use Rattle.value.specs.declared.TableOr.{TableOr}
 use Rattle.value.specs.declared.TableOr.the-variants.{Absent as NoTable, Present as SomeTable}
 use Rattle.value.specs.declared.StrOr.{StrOr}
 use Rattle.value.specs.declared.StrOr.the-variants.{Absent as NoStr, Present as SomeStr}
+use Rattle.value.specs.declared.UdOr.{UdOr}
+use Rattle.value.specs.declared.UdOr.the-variants.{Absent as NoUd, Present as SomeUd}
 
 unfoldable pub handleOf : ℕ → ℕ → Handle
 handleOf first g = ifEq first 0 Absent (Present (first - 1) g)
@@ -28,7 +30,7 @@ secondOf (Present i g) = g
 unfoldable pub putHandle : ℕ → Handle → List ℕ → List ℕ
 putHandle p h w = put (p + 1) (secondOf h) (put p (firstOf h) w)
 
--- a table's, and a string's
+-- a table's, a string's, and a userdata's
 abbrev pub tableOr : Handle → TableOr
 tableOr Absent = NoTable
 tableOr (Present i g) = SomeTable (record { 0 = i; 1 = g })
@@ -56,3 +58,17 @@ strOrAt w p = strOr (handleAt w p)
 
 abbrev pub putStrOr : ℕ → StrOr → List ℕ → List ℕ
 putStrOr p s w = putHandle p (strIn s) w
+
+abbrev pub udOr : Handle → UdOr
+udOr Absent = NoUd
+udOr (Present i g) = SomeUd (record { 0 = i; 1 = g })
+
+abbrev pub udIn : UdOr → Handle
+udIn NoUd = Absent
+udIn (SomeUd r) = Present (r .0) (r .1)
+
+abbrev pub udOrAt : List ℕ → ℕ → UdOr
+udOrAt w p = udOr (handleAt w p)
+
+abbrev pub putUdOr : ℕ → UdOr → List ℕ → List ℕ
+putUdOr p d w = putHandle p (udIn d) w

@@ -6,7 +6,7 @@ ghost use lib.ListN.{length};
 ghost use Rattle.base.specs.Words.{put};
 ghost use Rattle.value.specs.Numbers.{isNaN, sameNumber};
 ghost use Rattle.value.specs.Values.{isNil, tagOf, wordOf, lowOf, highOf, bitsOf, valueOf, valueAt, put3, putValue, payloadEqual, keyEqual};
-ghost use Rattle.value.specs.Handles.{handleOf, handleAt, putHandle, tableIn, tableOrAt, putTableOr, strIn, strOrAt, putStrOr};
+ghost use Rattle.value.specs.Handles.{handleOf, handleAt, putHandle, tableIn, tableOrAt, putTableOr, strIn, strOrAt, putStrOr, udIn, udOrAt, putUdOr};
 
 // A handle is an index and a generation. Each kind has its own, so that a string's never passes for a table's.
 pub struct StrRef(pub u32, pub u32);
@@ -50,6 +50,12 @@ pub enum TableOr {
 pub enum StrOr {
     Absent,
     Present(StrRef),
+}
+
+// A userdata's handle that may be missing.
+pub enum UdOr {
+    Absent,
+    Present(UdRef),
 }
 
 // The tag of a value: Lua's own number of its type.
@@ -236,6 +242,32 @@ pub fn write_str_or(w: &mut [u32], p: usize, s: StrOr)
     ensures { λ _. ⌜ now (w .exit) ≡ putStrOr p s (now (w .entry)) ⌝ }
 {
     write_handle(w, p, str_handle(s));
+}
+
+pub fn read_ud_or(w: &[u32], p: usize) -> UdOr
+    requires { ⌜ p + 1 < length (now w) ⌝ }
+    ensures { λ r. ⌜ r ≡ udOrAt (now (w .entry)) p ⌝ }
+{
+    match read_handle(w, p) {
+        Handle::Absent => UdOr::Absent,
+        Handle::Present(i, g) => UdOr::Present(UdRef(i, g)),
+    }
+}
+
+fn ud_handle(d: UdOr) -> Handle
+    ensures { λ r. ⌜ r ≡ udIn d ⌝ }
+{
+    match d {
+        UdOr::Absent => Handle::Absent,
+        UdOr::Present(r) => Handle::Present(r.0, r.1),
+    }
+}
+
+pub fn write_ud_or(w: &mut [u32], p: usize, d: UdOr)
+    requires { ⌜ p + 1 < length (now w) ⌝ }
+    ensures { λ _. ⌜ now (w .exit) ≡ putUdOr p d (now (w .entry)) ⌝ }
+{
+    write_handle(w, p, ud_handle(d));
 }
 
 // Exponent all ones, and a mantissa that is not 0.

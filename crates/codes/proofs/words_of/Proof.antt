@@ -42,6 +42,12 @@ item-words-requires c κs = search needs
 enum-known-r-7 : tie.Need-enum-known-r-7
 enum-known-r-7 c = search needs
 
+ud-words-requires : tie.Need-ud-words-requires
+ud-words-requires c κs = search needs
+
+enum-known-r-8 : tie.Need-enum-known-r-8
+enum-known-r-8 c = search needs
+
 returns : tie.Need-returns
 returns c = rw (c .before .before .before .r .given .1, c .before .low-half .ensures, c .high-half .ensures)
 
@@ -61,7 +67,10 @@ returns-6 : tie.Need-returns-6
 returns-6 c = rw (c .before .before .r6 .given .1) (c .item-words .ensures)
 
 returns-7 : tie.Need-returns-7
-returns-7 c = rw (c .before .r7 .given .1)
+returns-7 c = rw (c .before .before .r7 .given .1) (c .ud-words .ensures)
+
+returns-8 : tie.Need-returns-8
+returns-8 c = rw (c .before .r8 .given .1)
 
 pub words-of-spec : {M : Type 1} → statement M
 words-of-spec =
@@ -80,10 +89,13 @@ words-of-spec =
     enum-known-r-6
     item-words-requires
     enum-known-r-7
+    ud-words-requires
+    enum-known-r-8
     returns
     returns-2
     returns-3
     returns-4
     returns-5
     returns-6
-    returns-7)
+    returns-7
+    returns-8)

@@ -46,7 +46,7 @@ read-table-or-requires-3 : tie.Need-read-table-or-requires-3
 read-table-or-requires-3 c κs = search needs
 
 returns : tie.Need-returns
-returns c = rw (c .before .before .before .before .r .given .1) (lt-yes _ _ _ _ _ (omega arith) (cc))
+returns c = rw (c .before .before .before .before .r .given .1) (lt-yes _ _ _ _ _ (omega arith) (rw (c .read-table-or3 .ensures, c .before .wide .ensures .0)))
 
 returns-2 : tie.Need-returns-2
 returns-2 c = rw (c .before .enum-told .given .1, c .read-table-or .ensures)

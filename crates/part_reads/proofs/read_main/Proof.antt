@@ -1,0 +1,29 @@
+-- `part_reads::read_main` meets its contract: from what its callees promise. Assumes nothing.
+use borrow.Author.Needs.{needs}
+use Rattle.part_reads.specs.PartReads.{main-ok}
+use Rattle.test1.specs.Calls.{ask-fits, ask-refused}
+use Rattle.part_reads.proofs.read_main.Statement.{statement}
+use Rattle.part_reads.proofs.read_main.Tie as tie
+
+enter-requires : tie.Need-enter-requires
+enter-requires c κs = search needs
+
+enum-known-l : tie.Need-enum-known-l
+enum-known-l c = search needs
+
+main-in-requires : tie.Need-main-in-requires
+main-in-requires c κs = main-ok _ _ _ (rw (c .before .l .given .1) at (c .before .before .before .enter .ensures .1))
+
+enum-known-n : tie.Need-enum-known-n
+enum-known-n c = search needs
+
+returns : tie.Need-returns
+returns c = ask-fits _ _ _ _ _ _ (c .before .before .before .before .enter .ensures .0) (c .before .before .l .given .1) (c .main-in .ensures)
+
+returns-2 : tie.Need-returns-2
+returns-2 c = ask-refused _ _ _ _ _ (c .before .before .before .enter .ensures .0) (c .before .n .given .1)
+
+pub read-main-spec : {M : Type 1} → statement M
+read-main-spec =
+    tie.close
+    (tie.spec enter-requires enum-known-l main-in-requires enum-known-n returns returns-2)
