@@ -4,3 +4,5 @@ pub mod Bodies
 pub mod Separates
 pub mod Dues
 pub mod Finishes
+pub mod Notes
+pub mod Notings

@@ -95,16 +95,16 @@ module _ (l : Lay) (ok : Laid l) (a : Apart l) (am : Ample l) (w b : List ℕ) (
 
   -- The lists are emptied, the main thread is listed: nothing is marked yet.
   module _ (f : AllWhite l w) where
-    abbrev empty : List ℕ
+    abbrev pub empty : List ℕ
     empty = clearLists (ops l) w
 
-    empty-marked : Marked l w empty
+    pub empty-marked : Marked l w empty
     empty-marked = moves-marked l ok a (cleared-moves l (still refl)) long
 
-    empty-long : l .words ≤ length empty
+    pub empty-long : l .words ≤ length empty
     empty-long = omega (arith, long, empty-marked .long)
 
-    abbrev v : List ℕ
+    abbrev pub v : List ℕ
     v = push (l .gray) Main empty
 
     -- clearing and listing change no colour
@@ -117,10 +117,11 @@ module _ (l : Lay) (ok : Laid l) (a : Apart l) (am : Ample l) (w b : List ℕ) (
         ∙ cleared-shade l ok a grayagain (cleared (l .gray) w) (omega (arith, long, m₁ .long)) r
         ∙ cleared-shade l ok a gray w long r
 
-    first-shade : (r : Ref) → colourW l r v ≡ colourW l r w
+    pub first-shade : (r : Ref) → colourW l r v ≡ colourW l r w
     first-shade r = push-shade l ok a gray Main empty empty-long r ∙ empty-shade r
 
-    first-white : (r : Ref) → 3 ≤ colourW l r v → ⊥
+    -- nothing is marked yet
+    pub first-white : (r : Ref) → 3 ≤ colourW l r v → ⊥
     first-white r h = low (colourW l r v) (colourW l r w) (at w WHITE) h (first-shade r) (λ g. f .white r g) (f .high)
       where
         low : (c d n : ℕ) → 3 ≤ c → c ≡ d → (1 ≤ d → d ≡ n) → n ≤ 2 → ⊥
@@ -138,7 +139,8 @@ module _ (l : Lay) (ok : Laid l) (a : Apart l) (am : Ample l) (w b : List ℕ) (
         room : lengthOf (l .gray) (clearLists (ops l) w) < l .gray .room
         room = small (lengthOf (l .gray) (clearLists (ops l) w)) (l .gray .room) (l .tables .slots + l .functions .slots + l .threads .slots) (cleared-empty l ok a w long .0) (am .gray)
 
-    first-ok : Ok l w b (Root l w b) (First l w) None 0 0 0 (rootLinks w l) v
+    -- The roots are to be marked.
+    pub first-ok : Ok l w b (Root l w b) (First l w) None 0 0 0 (rootLinks w l) v
     first-ok = record {
       marked = marked-then empty-marked (moves-marked l ok a (pushed (still refl) gray Main refl) empty-long);
       whole = listed-whole l ok a am w long;
@@ -168,16 +170,16 @@ module _ (l : Lay) (ok : Laid l) (a : Apart l) (am : Ample l) (w b : List ℕ) (
   main-reach x m k = Reach·root (Memᴰ·append-right (rootLinks w l) m) k
 
   -- A step during Propagate,
-  advanced-ok : {Cov : Ref → Type 0} (u : List ℕ) (x : Propagated × List ℕ) → Ok l w b (Root l w b) Cov None 0 0 (0 + mainsDue (x .0)) [] (x .1) → Ok l w b (Root l w b) Cov None 0 0 0 [] (advanced l x)
-  advanced-ok u (Done c, y) h = less-ok l ok a am w b long 0 0 0 (omega arith) (omega arith) (omega arith) h
-  advanced-ok u (NeedMainThread, y) h = main-ok l ok a am w b long 0 0 0 y main-reach (λ z m k. inl m) h
-  advanced-ok u (Empty, y) h = less-ok l ok a am w b long 0 0 0 (omega arith) (omega arith) (omega arith) h
+  pub advanced-ok : {Cov : Ref → Type 0} (x : Propagated × List ℕ) → Ok l w b (Root l w b) Cov None 0 0 (0 + mainsDue (x .0)) [] (x .1) → Ok l w b (Root l w b) Cov None 0 0 0 [] (advanced l x)
+  advanced-ok (Done c, y) h = less-ok l ok a am w b long 0 0 0 (omega arith) (omega arith) (omega arith) h
+  advanced-ok (NeedMainThread, y) h = main-ok l ok a am w b long 0 0 0 y main-reach (λ z m k. inl m) h
+  advanced-ok (Empty, y) h = less-ok l ok a am w b long 0 0 0 (omega arith) (omega arith) (omega arith) h
 
   -- and any number of them.
   pub advances-ok : {Cov : Ref → Type 0} (n : ℕ) (u : List ℕ) → Ok l w b (Root l w b) Cov None 0 0 0 [] u → Ok l w b (Root l w b) Cov None 0 0 0 [] (advances l b n u)
   unfolding advances
   advances-ok zero u h = h
-  advances-ok (suc n) u h = advances-ok n (advanced l (propagateOne (ops l) l b u)) (advanced-ok u (propagateOne (ops l) l b u) (one-ok l ok a am w b long 0 0 0 u h))
+  advances-ok (suc n) u h = advances-ok n (advanced l (propagateOne (ops l) l b u)) (advanced-ok (propagateOne (ops l) l b u) (one-ok l ok a am w b long 0 0 0 u h))
 
   -- After them no black slot has a link that leads to a white one.
   pub tri-colour : AllWhite l w → (n : ℕ) (r x : Ref) → colourW l r (advances l b n (rooted l w)) ≡ 4 → Link l w b r x → Occupied l w x → 3 ≤ colourW l x (advances l b n (rooted l w))
@@ -228,7 +230,7 @@ module _ (l : Lay) (ok : Laid l) (a : Apart l) (am : Ample l) (w b : List ℕ) (
     again-item-ok x u (inl e) c = subst (λ y. Ok l w b R Cov None p t q [] (againItem l b y u)) (sym e) c
     again-item-ok x u (inr (r, e, h)) c = subst (λ y. Ok l w b R Cov None p t q [] (againItem l b y u)) (sym e) (retraverse-ok r u h c)
 
-    again-listed-ok : (k : ℕ) (u : List ℕ) → Ok l w b R Cov None p t q [] u → Ok l w b R Cov None p t q [] (againListed l b k u)
+    pub again-listed-ok : (k : ℕ) (u : List ℕ) → Ok l w b R Cov None p t q [] u → Ok l w b R Cov None p t q [] (againListed l b k u)
     unfolding againListed againItem itemAt
     again-listed-ok k u c = go (decLt k (lengthOf (l .grayagain) u))
       where
@@ -237,7 +239,7 @@ module _ (l : Lay) (ok : Laid l) (a : Apart l) (am : Ample l) (w b : List ℕ) (
         go (no h) = subst (λ y. Ok l w b R Cov None p t q [] (againItem l b y u)) (le-yes (lengthOf (l .grayagain) u) k Unknown (itemIn u (place (l .grayagain) k)) Unknown (omega (arith, h)) refl) c
 
     -- and all of it.
-    again-all-ok : (u : List ℕ) → Ok l w b R Cov None p t q [] u → Ok l w b R Cov None p t q [] (againAll l b u)
+    pub again-all-ok : (u : List ℕ) → Ok l w b R Cov None p t q [] u → Ok l w b R Cov None p t q [] (againAll l b u)
     unfolding againAll
     again-all-ok u c = run-keeps (againListed l b) (λ x. Ok l w b R Cov None p t q [] x) 0 (lengthOf (l .grayagain) u) u (omega arith) (λ j x h d. again-listed-ok j x d) c
 
@@ -251,13 +253,15 @@ module _ (l : Lay) (ok : Laid l) (a : Apart l) (am : Ample l) (w b : List ℕ) (
         u-long : l .words ≤ length u
         u-long = whole-long l ok a am w long (c .whole)
 
-  -- The first part of the atomic phase: all roots are given.
-  walked-ok : (u : List ℕ) → Ok l w b (Root l w b) (First l w) None 0 0 0 [] u → Ok l w b (Root l w b) (Root l w b) None 0 0 0 [] (cleared (l .grayagain) (againAll l b (markMain (ops l) l u)))
-  walked-ok u c =
-      cleared-ok (againAll l b (markMain (ops l) l u))
-      (again-all-ok (markMain (ops l) l u)
-      (subst (λ x. Ok l w b (Root l w b) (Root l w b) None 0 0 0 [] x) (sym (main-links l ok a w long u (c .marked)))
-      (marks-all l ok a am w b long (mainLinks w l) (give-ok l ok a am w b long (mainLinks w l) u main-reach (λ x m k. List·Memᴰ·append-cases (rootLinks w l) m) c))))
+  -- The first part of the atomic phase: with the main thread all roots are given.
+  pub mained-ok : (u : List ℕ) → Ok l w b (Root l w b) (First l w) None 0 0 0 [] u → Ok l w b (Root l w b) (Root l w b) None 0 0 0 [] (markMain (ops l) l u)
+  mained-ok u c =
+      subst (λ x. Ok l w b (Root l w b) (Root l w b) None 0 0 0 [] x) (sym (main-links l ok a w long u (c .marked)))
+      (marks-all l ok a am w b long (mainLinks w l) (give-ok l ok a am w b long (mainLinks w l) u main-reach (λ x m k. List·Memᴰ·append-cases (rootLinks w l) m) c))
+
+  -- grayagain is followed, and emptied
+  pub walked-ok : (u : List ℕ) → Ok l w b (Root l w b) (First l w) None 0 0 0 [] u → Ok l w b (Root l w b) (Root l w b) None 0 0 0 [] (cleared (l .grayagain) (againAll l b (markMain (ops l) l u)))
+  walked-ok u c = cleared-ok (againAll l b (markMain (ops l) l u)) (again-all-ok (markMain (ops l) l u) (mained-ok u c))
 
   -- Then all gray: the invariant is kept, and nothing is gray.
   pub marked-ok : (u : List ℕ) → Ok l w b (Root l w b) (First l w) None 0 0 0 [] u
