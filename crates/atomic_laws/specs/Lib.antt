@@ -6,3 +6,5 @@ pub mod Dues
 pub mod Finishes
 pub mod Notes
 pub mod Notings
+pub mod Spares
+pub mod Survives
