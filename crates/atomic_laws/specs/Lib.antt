@@ -8,3 +8,4 @@ pub mod Notes
 pub mod Notings
 pub mod Spares
 pub mod Survives
+pub mod Planned
