@@ -6,3 +6,6 @@ pub mod Dues
 pub mod Finishes
 pub mod Notes
 pub mod Notings
+pub mod Spares
+pub mod Survives
+pub mod Planned

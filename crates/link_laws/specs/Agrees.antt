@@ -70,7 +70,7 @@ module _ {w u : List ℕ} {p n : ℕ} (s : Agree w u p n) where
       each-same (λ i. upval (upvalAt u (q + 2 * i)) ∷ []) (λ i. upval (upvalAt w (q + 2 * i)) ∷ []) k 0 (λ j x y. ap (λ (r : UpvalRef). upval r ∷ []) (upval-same (q + 2 * j) (omega (arith, f)) (omega (arith, g, y))))
 
 -- a count that is bounded
-bounded-most : (x m : ℕ) → bounded x m ≤ m
+pub bounded-most : (x m : ℕ) → bounded x m ≤ m
 bounded-most x m = go (decLt m x)
   where
     same : (y : ℕ) → y ≡ bounded x m → y ≤ m → bounded x m ≤ m
@@ -146,7 +146,7 @@ module _ {w u : List ℕ} {p : ℕ} where
       H = valueLinks (threadHook p w)
 
   -- a table's entries, for one mode
-  size-same : Agree w u p 580 → arraySize p u ≡ arraySize p w
+  pub size-same : Agree w u p 580 → arraySize p u ≡ arraySize p w
   size-same s = ap (λ (x : ℕ). bounded x 64) (s .word (p + 2) (omega arith) (omega arith))
 
   pub nodes-same : Agree w u p 580 → nodeCount p u ≡ nodeCount p w

@@ -1,7 +1,8 @@
 -- The third part of the atomic phase: the white flips, the strings of listed weak tables take the new white, dead entries are
 -- cleared, the estimate and the cursor are set. Nothing is pushed, and the damage mark stays. Assumes nothing.
 --     Unmarked                  the damage mark is as it was
---     kept-mark, cleared-mark   strings, and entries, of one table and of all that are listed
+--     kept-mark                 keeping strings leaves the damage mark
+--     Low, cleared-low          the words below the boundary; clearing entries leaves them
 --     flipped-mark, begun-mark  the whole part
 use mathlib.Core.Path.{_≡_, refl, _∙_}
 use mathlib.Core.Bool.{Bool, true, false, cond}
@@ -49,10 +50,6 @@ unmarked-none = record { long = refl; mark = refl }
 -- a word elsewhere
 put-unmarked : {w u : List ℕ} (q x : ℕ) → damage < q → Unmarked w u → Unmarked w (put q x u)
 put-unmarked {w} {u} q x h s = record { long = length-set u q x ∙ s .long; mark = getD-set-other u q damage x 0 (λ e. omega (arith, e, h)) ∙ s .mark }
-
--- a value past the header
-nil-unmarked : {w u : List ℕ} (p : ℕ) → damage < p → Unmarked w u → Unmarked w (put3 p 0 0 0 u)
-nil-unmarked {w} {u} p h s = record { long = put3-long p 0 0 0 u ∙ s .long; mark = put3-kept p 0 0 0 u damage (inl h) ∙ s .mark }
 
 -- what is done with a listed table
 on-table : (f : TableRef → List ℕ → List ℕ) {w : List ℕ} → ((r : TableRef) (u : List ℕ) → Unmarked w u → Unmarked w (f r u)) → (x : Item) (u : List ℕ) → Unmarked w u → Unmarked w (onTable f x u)
@@ -111,68 +108,95 @@ module _ (l : Lay) (ok : Laid l) (a : Apart l) (w : List ℕ) where
     unfolding keepAll keepListed
     kept-mark u s = run-keeps (keepListed l white) (λ x. Unmarked w x) 0 (lengthOf (l .weak) u) u (omega arith) (λ j x h t. on-table (keepTable l white) table-mark (itemAt (l .weak) j x) x t) s
 
+-- The words below the boundary are as they were.
+pub record Low (l : Lay) (w u : List ℕ) : Type 0 where
+  pub long : length u ≡ length w
+  pub word : (q : ℕ) → q < l .boundary → at u q ≡ at w q
+
+pub low-none : {l : Lay} {w : List ℕ} → Low l w w
+low-none = record { long = refl; word = λ q h. refl }
+
+-- what is done with a listed table
+low-table : {l : Lay} (f : TableRef → List ℕ → List ℕ) {w : List ℕ} → ((r : TableRef) (u : List ℕ) → Low l w u → Low l w (f r u)) → (x : Item) (u : List ℕ) → Low l w u → Low l w (onTable f x u)
+unfolding onTable
+low-table f h (Table r) u s = h r u s
+low-table f h (Function r) u s = s
+low-table f h (Userdata r) u s = s
+low-table f h (Thread r) u s = s
+low-table f h Main u s = s
+low-table f h Unknown u s = s
+
+module _ (l : Lay) (ok : Laid l) (a : Apart l) (w : List ℕ) (old : ℕ) where
+  abbrev ord : Order l
+  ord = order l ok a
+
+  -- a value past the boundary becomes nil
+  nil-low : {u : List ℕ} (p : ℕ) → l .boundary ≤ p → Low l w u → Low l w (put3 p 0 0 0 u)
+  nil-low {u} p h s = record { long = put3-long p 0 0 0 u ∙ s .long; word = λ q g. put3-kept p 0 0 0 u q (inl (omega (arith, g, h))) ∙ s .word q g }
+
   -- Entries die.
-  module _ (old : ℕ) where
-    value-mark : (p : ℕ) (u : List ℕ) → damage < p → Unmarked w u → Unmarked w (clearValue l old p u)
-    unfolding clearValue
-    value-mark p u h s = go (isDead l old false (valueAt u p) u)
-      where
-        go : (d : Bool) → Unmarked w (cond d (put3 p 0 0 0 u) u)
-        go true = nil-unmarked p h s
-        go false = s
+  value-low : (p : ℕ) (u : List ℕ) → l .boundary ≤ p → Low l w u → Low l w (clearValue l old p u)
+  unfolding clearValue
+  value-low p u h s = go (isDead l old false (valueAt u p) u)
+    where
+      go : (d : Bool) → Low l w (cond d (put3 p 0 0 0 u) u)
+      go true = nil-low p h s
+      go false = s
 
-    array-mark : (m : Mode) (p n : ℕ) (u : List ℕ) → damage < p → Unmarked w u → Unmarked w (clearArray l old m p n u)
-    unfolding clearArray clearValues
-    array-mark m p n u h s = go (m .values)
-      where
-        go : (d : Bool) → Unmarked w (cond d (clearValues l old p n u) u)
-        go true = run-keeps (clearNth l old p) (λ x. Unmarked w x) 0 n u (omega arith) (λ j x g t. value-mark (p + 3 * j) x (omega (arith, h)) t) s
-        go false = s
+  array-low : (m : Mode) (p n : ℕ) (u : List ℕ) → l .boundary ≤ p → Low l w u → Low l w (clearArray l old m p n u)
+  unfolding clearArray clearValues
+  array-low m p n u h s = go (m .values)
+    where
+      go : (d : Bool) → Low l w (cond d (clearValues l old p n u) u)
+      go true = run-keeps (clearNth l old p) (λ x. Low l w x) 0 n u (omega arith) (λ j x g t. value-low (p + 3 * j) x (omega (arith, h)) t) s
+      go false = s
 
-    entry-mark : (m : Mode) (q : ℕ) (u : List ℕ) → damage < q → Unmarked w u → Unmarked w (clearNode l old m q u)
-    unfolding clearNode
-    entry-mark m q u h s = go (isNil (valueAt u q)) (nodeDies l old m q u)
-      where
-        go : (c d : Bool) → Unmarked w (cond c u (cond d (put3 (q + 3) 0 0 0 u) u))
-        go true d = s
-        go false true = nil-unmarked (q + 3) (omega (arith, h)) s
-        go false false = s
+  entry-low : (m : Mode) (q : ℕ) (u : List ℕ) → l .boundary ≤ q → Low l w u → Low l w (clearNode l old m q u)
+  unfolding clearNode
+  entry-low m q u h s = go (isNil (valueAt u q)) (nodeDies l old m q u)
+    where
+      go : (c d : Bool) → Low l w (cond c u (cond d (put3 (q + 3) 0 0 0 u) u))
+      go true d = s
+      go false true = nil-low (q + 3) (omega (arith, h)) s
+      go false false = s
 
-    entries-mark : (m : Mode) (p : ℕ) (u : List ℕ) → damage < p → Unmarked w u → Unmarked w (clearEntries l old m p u)
-    unfolding clearEntries clearNodes
-    entries-mark m p u h s =
-        run-keeps (clearNthNode l old m (p + 4 + 3 * arraySize p u)) (λ x. Unmarked w x) 0 (nodeCount p u) _ (omega arith)
-        (λ j x g t. entry-mark m (p + 4 + 3 * arraySize p u + 6 * j) x (omega (arith, h)) t)
-        (array-mark m (p + 4) (arraySize p u) u (omega (arith, h)) s)
+  entries-low : (m : Mode) (p : ℕ) (u : List ℕ) → l .boundary ≤ p → Low l w u → Low l w (clearEntries l old m p u)
+  unfolding clearEntries clearNodes
+  entries-low m p u h s =
+      run-keeps (clearNthNode l old m (p + 4 + 3 * arraySize p u)) (λ x. Low l w x) 0 (nodeCount p u) _ (omega arith)
+      (λ j x g t. entry-low m (p + 4 + 3 * arraySize p u + 6 * j) x (omega (arith, h)) t)
+      (array-low m (p + 4) (arraySize p u) u (omega (arith, h)) s)
 
-    dead-mark : (b : List ℕ) (r : TableRef) (u : List ℕ) → Unmarked w u → Unmarked w (clearTable l b old r u)
-    unfolding clearTable
-    dead-mark b r u s =
-        eq-either (λ (x : List ℕ). Unmarked w x) (shade (l .tables) (r .0) (r .1) u) 0 u _ s
-        (go (isWeak (weakMode l (tableMeta p u) u b)))
-      where
-        p : ℕ
-        p = bodyAt (l .tables) (r .0)
+  dead-low : (b : List ℕ) (r : TableRef) (u : List ℕ) → Low l w u → Low l w (clearTable l b old r u)
+  unfolding clearTable
+  dead-low b r u s =
+      eq-either (λ (x : List ℕ). Low l w x) (shade (l .tables) (r .0) (r .1) u) 0 u _ s
+      (go (isWeak (weakMode l (tableMeta (bodyAt (l .tables) (r .0)) u) u b)))
+    where
+      m : Mode
+      m = weakMode l (tableMeta (bodyAt (l .tables) (r .0)) u) u b
 
-        m : Mode
-        m = weakMode l (tableMeta (bodyAt (l .tables) (r .0)) u) u b
+      go : (d : Bool) → Low l w (cond d (clearEntries l old m (bodyAt (l .tables) (r .0)) u) u)
+      go true = entries-low m (bodyAt (l .tables) (r .0)) u (omega (arith, ord .past-tables)) s
+      go false = s
 
-        go : (d : Bool) → Unmarked w (cond d (clearEntries l old m (bodyAt (l .tables) (r .0)) u) u)
-        go true = entries-mark m p u (omega (arith, o .past-tables, o .header, a)) s
-        go false = s
-
-    -- Clearing the entries of all listed tables leaves the damage mark.
-    pub cleared-mark : (b u : List ℕ) → Unmarked w u → Unmarked w (clearAll l b old u)
-    unfolding clearAll clearListed
-    cleared-mark b u s = run-keeps (clearListed l b old) (λ x. Unmarked w x) 0 (lengthOf (l .weak) u) u (omega arith) (λ j x h t. on-table (clearTable l b old) (dead-mark b) (itemAt (l .weak) j x) x t) s
+  -- Clearing the entries of all listed tables leaves all words below the boundary.
+  pub cleared-low : (b u : List ℕ) → Low l w u → Low l w (clearAll l b old u)
+  unfolding clearAll clearListed
+  cleared-low b u s = run-keeps (clearListed l b old) (λ x. Low l w x) 0 (lengthOf (l .weak) u) u (omega arith) (λ j x h t. low-table (clearTable l b old) (dead-low b) (itemAt (l .weak) j x) x t) s
 
 -- The white flips, and weak tables are cleared.
 pub flipped-mark : (l : Lay) → Laid l → Apart l → (b w : List ℕ) → l .words ≤ length w → at (flipped l b w) damage ≡ at w damage
 unfolding flipped clearWeakTables
 flipped-mark l ok a b w long =
     let o = order l ok a in
-    let s = cleared-mark l ok a w (at w WHITE) b _ (kept-mark l ok a w (otherWhite (at w WHITE)) _ (put-unmarked WHITE (otherWhite (at w WHITE)) (omega arith) unmarked-none)) in
-    cleared-kept (l .weak) _ (weak-room l _ ok (omega (arith, long, s .long))) damage (λ e. omega (arith, e, o .weak)) (inl (omega (arith, o .header, a))) ∙ s .mark
+    let n = otherWhite (at w WHITE) in
+    let k = kept-mark l ok a w n (put WHITE n w) (put-unmarked WHITE n (omega arith) unmarked-none) in
+    let v = keepAll l n (put WHITE n w) in
+    let s = cleared-low l ok a v (at w WHITE) b v low-none in
+    cleared-kept (l .weak) (clearAll l b (at w WHITE) v) (weak-room l (clearAll l b (at w WHITE) v) ok (omega (arith, long, k .long, s .long))) damage (λ e. omega (arith, e, o .weak)) (inl (omega (arith, o .header, a)))
+    ∙ s .word damage (omega (arith, o .header, a))
+    ∙ k .mark
 
 -- The estimate, the cursor and the phase are set.
 pub begun-mark : (n : ℕ) (w : List ℕ) → at (begun n w) damage ≡ at w damage

@@ -348,9 +348,9 @@ module _ (l : Lay) (ok : Laid l) (a : Apart l) (am : Ample l) where
 
     -- A push onto weak takes a place that is paid for: there is room,
     pub weak-fits : (p t q : ℕ) (u : List ℕ) → Whole l (p + 1) t q w u → lengthOf (l .weak) u < l .weak .room
-    weak-fits p t q u h = sums (tally l u) (h .paid) (count-most isDark (l .tables .base) (l .tables .slots) u) (am .weak)
+    weak-fits p t q u h = sums (tally l u) (h .paid) (count-most isDark (l .tables .base) (l .tables .slots) u) (omega (arith, am .weak))
       where
-        sums : (x : Tally) {n r : ℕ} → Paid x (p + 1) t q → x .darkTables ≤ n → 2 * n ≤ r → x .weak < r
+        sums : (x : Tally) {n r : ℕ} → Paid x (p + 1) t q → x .darkTables ≤ n → n ≤ r → x .weak < r
         sums x h f g = omega (arith, h .weak, f, g)
 
     -- and the rest is paid for.
