@@ -10,5 +10,4 @@ pub mod Takes
 pub mod Frees
 pub mod Sweeps
 pub mod Lives
-pub mod Examples
 pub mod Example

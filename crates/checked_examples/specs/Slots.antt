@@ -1,15 +1,10 @@
--- The starred examples of document 01 that speak of slots, as one table: what the definitions give, and what the document says.
--- `examples` proves the whole table, by computation. Assumes nothing.
-use mathlib.Core.Path.{_≡_, refl}
-use mathlib.Core.List.{List, [], _∷_, _++_, map}
+-- The starred examples of document 01 that speak of slots: small arenas, and what the definitions make of them. Assumes nothing.
+use mathlib.Core.List.{List, [], _∷_, _++_}
 use mathlib.Core.Bool.{Bool, cond}
 use Prim.Native.Nat.{ℕ, zero, suc, _+_, _*_}
 use lib.ListN.{replicate}
-use Rattle.base.specs.Loop.{run, rounds, scan, scans}
-use Rattle.base.specs.Ways.{ifLt, ifLe, ifEq}
-use Rattle.base.specs.Words.{clear}
 use Rattle.base.specs.Heap.{Heap, heap}
-use Rattle.arena.specs.Slots.{gen, link, head, emptied, chained, freeSlot, visit, sweepPartial}
+use Rattle.arena.specs.Slots.{link, freeSlot, sweepPartial}
 use Rattle.arena.specs.declared.Arena.{Arena}
 use Rattle.arena.specs.declared.Swept.{Swept}
 
@@ -52,17 +47,3 @@ five = sweepPartial (small 5) 1 2 0 80 (heapOf 5 5 (2 ∷ 1 ∷ 4 ∷ 1 ∷ 0 �
 -- a slot at generation 4,294,967,295 is freed
 unfoldable pub wrapped : Heap
 wrapped = freeSlot (small 5) 2 (heapOf 0 5 (replicate 5 1) 4294967295)
-
--- a row: what the definitions give, what the document says
-unfoldable pub table : List (List ℕ × List ℕ)
-table =
-    (said (eighty .0), 80 ∷ 1 ∷ [])
-    ∷ (said (first .0), 80 ∷ 0 ∷ [])
-    ∷ (said (second .0), 81 ∷ 1 ∷ [])
-    ∷ (chainFrom (small 5) 6 (head (small 5) (five .1 .words)) (five .1 .words), 3 ∷ 1 ∷ 4 ∷ [])
-    ∷ (gen (small 5) 2 (wrapped .words) ∷ [], 0 ∷ [])
-    ∷ []
-
-pub examples : map (λ (r : List ℕ × List ℕ). r .0) table ≡ map (λ (r : List ℕ × List ℕ). r .1) table
-unfolding small heapOf chainFrom told said eighty first second five wrapped table run rounds scan scans ifLt ifLe ifEq clear emptied chained freeSlot visit sweepPartial
-examples = refl
