@@ -12,6 +12,7 @@ ghost use Prim.Native.Nat.{_≤_};
 ghost use lib.ListN.{length};
 ghost use Rattle.arena.specs.Slots.{Room};
 ghost use Rattle.laid.specs.Laid.{Laid};
+ghost use Rattle.given.specs.Answers.{unmarked};
 ghost use Rattle.given.specs.Given.{isNamed, isTable, isTableOr, isUpvalue, isSound};
 
 // What a call answers that changes something and has nothing to tell.
@@ -24,6 +25,17 @@ pub enum Served {
 pub enum Got {
     Value(Value),
     Refused(u32),
+}
+
+// The answer of work that may have set the damage mark: then it is 8.
+pub fn unmarked(w: &[u32], a: Served) -> Served
+    requires { ⌜ 91 ≤ length (now w) ⌝ }
+    ensures { λ r. ⌜ r ≡ unmarked (now (w .entry)) a ⌝ }
+{
+    if base::get(w, layout::DAMAGE) == 0 {
+        return a;
+    }
+    Served::Refused(8)
 }
 
 // Whether a handle names an occupied slot.
