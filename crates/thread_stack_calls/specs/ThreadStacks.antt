@@ -1,6 +1,6 @@
--- The calls that change a thread's stack: 1 and 8 as every call, 2 for a handle that names no thread, then 5 for a pop of an
--- empty stack, 4 for a push onto a full one or an index or top past its size, 2 for a value that names no occupied slot of its
--- kind. No barrier: a thread that was traversed is listed, and is visited again in the atomic phase. Assumes nothing.
+-- The calls that push onto a thread's stack and pop from it: 1 and 8 as every call, 2 for a handle that names no thread, then 5
+-- for a pop of an empty stack, 4 for a push onto a full one, 2 for a value that names no occupied slot of its kind. No barrier: a
+-- thread that was traversed is listed, and is visited again in the atomic phase. Assumes nothing.
 use mathlib.Core.List.{List}
 use Prim.Native.Nat.{ℕ}
 use Rattle.base.specs.Heap.{Heap}
@@ -12,7 +12,7 @@ use Rattle.given.specs.declared.Served.{Served}
 use Rattle.given.specs.declared.Served.the-variants.{Refused}
 use Rattle.given.specs.declared.Got.{Got}
 use Rattle.given.specs.declared.Got.the-variants as got
-use Rattle.stacks.specs.Values.{pushValue, popValue, setValue, setHeight}
+use Rattle.stacks.specs.Values.{pushValue, popValue}
 use Rattle.owners.specs.Owners.{threadStack, onThread}
 
 abbrev pub threadPushIn : ThreadRef → Value → Lay → List ℕ → Served × List ℕ
@@ -27,16 +27,3 @@ threadPopIn t l w = onThread got.Refused (λ p u. popValue (threadStack p u) u) 
 
 unfoldable pub threadPop : ThreadRef → Heap → Got × Heap
 threadPop t h = call got.Refused (inWords (threadPopIn t)) h
-
-abbrev pub threadSetIn : ThreadRef → ℕ → Value → Lay → List ℕ → Served × List ℕ
-threadSetIn t i v l w = onThread Refused (λ p u. setValue l (threadStack p u) i v u) l t w
-
-unfoldable pub threadSet : ThreadRef → ℕ → Value → Heap → Served × Heap
-threadSet t i v h = call Refused (inWords (threadSetIn t i v)) h
-
--- Raising a stack fills with nil.
-abbrev pub threadSetTopIn : ThreadRef → ℕ → Lay → List ℕ → Served × List ℕ
-threadSetTopIn t n l w = onThread Refused (λ p u. setHeight (threadStack p u) n u) l t w
-
-unfoldable pub threadSetTop : ThreadRef → ℕ → Heap → Served × Heap
-threadSetTop t n h = call Refused (inWords (threadSetTopIn t n)) h

@@ -1,12 +1,12 @@
--- `thread_stack_calls::thread_set_top` meets its contract: the callees' equations joined. Assumes nothing.
+-- `thread_suspended_calls::thread_suspended_cut` meets its contract: the callees' equations joined. Assumes nothing.
 use mathlib.Core.Path.{_∙_, sym}
 use borrow.Author.Needs.{needs}
 use Rattle.entered.specs.Entered.{entered}
 use Rattle.owners.specs.Owners.{onThread}
 use Rattle.test1.specs.Calls.{call-refused, call-words}
-use Rattle.thread_stack_calls.specs.ThreadStacks.{threadSetTop}
-use Rattle.thread_stack_calls.proofs.thread_set_top.Statement.{statement}
-use Rattle.thread_stack_calls.proofs.thread_set_top.Tie as tie
+use Rattle.thread_suspended_calls.specs.ThreadSuspended.{threadSuspendedCut}
+use Rattle.thread_suspended_calls.proofs.thread_suspended_cut.Statement.{statement}
+use Rattle.thread_suspended_calls.proofs.thread_suspended_cut.Tie as tie
 
 enter-requires : tie.Need-enter-requires
 enter-requires c κs = search needs
@@ -20,11 +20,11 @@ thread-body-requires c κs = (entered _ _ _ (sym (c .before .before .l .given .1
 enum-known-p : tie.Need-enum-known-p
 enum-known-p c = search needs
 
-thread-stack-requires : tie.Need-thread-stack-requires
-thread-stack-requires c κs = rw (c .before .before .p .given .1) at (c .before .before .before .before .thread-body .ensures .1)
+thread-suspended-requires : tie.Need-thread-suspended-requires
+thread-suspended-requires c κs = rw (c .before .before .p .given .1) at (c .before .before .before .before .thread-body .ensures .1)
 
-set-height-requires : tie.Need-set-height-requires
-set-height-requires c κs = c .before .thread-stack .ensures .1
+cut-upvalues-requires : tie.Need-cut-upvalues-requires
+cut-upvalues-requires c κs = c .before .thread-suspended .ensures .1
 
 enum-told : tie.Need-enum-told
 enum-told c = search needs
@@ -36,33 +36,33 @@ same-length : tie.Need-same-length
 same-length c = search needs
 
 returns : tie.Need-returns
-unfolding threadSetTop onThread
-returns c = call-words _ _ _ _ _ _ _ (c .before .before .before .before .before .before .before .before .before .before .before .before .before .before .enter .ensures .0) (c .before .before .before .before .before .before .before .before .before .before .before .before .l .given .1) (rw (← c .before .before .before .before .before .before .before .before .before .thread-body .ensures .0, c .before .before .before .before .before .before .before .p .given .1, ← c .before .before .before .before .thread-stack .ensures .0) (c .before .before .set-height .ensures))
+unfolding threadSuspendedCut onThread
+returns c = call-words _ _ _ _ _ _ _ (c .before .before .before .before .before .before .before .before .before .before .before .before .before .before .enter .ensures .0) (c .before .before .before .before .before .before .before .before .before .before .before .before .l .given .1) (rw (← c .before .before .before .before .before .before .before .before .before .thread-body .ensures .0, c .before .before .before .before .before .before .before .p .given .1, ← c .before .before .before .before .thread-suspended .ensures .0) (c .before .before .cut-upvalues .ensures))
 
 same-length-2 : tie.Need-same-length-2
 same-length-2 c = search needs
 
 returns-2 : tie.Need-returns-2
-unfolding threadSetTop onThread
+unfolding threadSuspendedCut onThread
 returns-2 c = call-words _ _ _ _ _ _ _ (c .before .before .before .before .before .before .before .enter .ensures .0) (c .before .before .before .before .before .l .given .1) (rw (← c .before .before .thread-body .ensures .0, c .enum-told .given .1))
 
 same-length-3 : tie.Need-same-length-3
 same-length-3 c = search needs
 
 returns-3 : tie.Need-returns-3
-unfolding threadSetTop
+unfolding threadSuspendedCut
 returns-3 c = call-refused _ _ _ _ _ (c .before .before .before .enter .ensures .0) (c .before .k .given .1)
 
-pub thread-set-top-spec : {M : Type 1} → statement M
-thread-set-top-spec =
+pub thread-suspended-cut-spec : {M : Type 1} → statement M
+thread-suspended-cut-spec =
     tie.close
     (tie.spec
     enter-requires
     enum-known-l
     thread-body-requires
     enum-known-p
-    thread-stack-requires
-    set-height-requires
+    thread-suspended-requires
+    cut-upvalues-requires
     enum-told
     enum-known-k
     same-length

@@ -1,12 +1,12 @@
--- `thread_stack_calls::thread_set` meets its contract: the callees' equations joined. Assumes nothing.
+-- `thread_set_calls::thread_set` meets its contract: the callees' equations joined. Assumes nothing.
 use mathlib.Core.Path.{_∙_, sym}
 use borrow.Author.Needs.{needs}
 use Rattle.entered.specs.Entered.{entered}
 use Rattle.owners.specs.Owners.{onThread}
 use Rattle.test1.specs.Calls.{call-refused, call-words}
-use Rattle.thread_stack_calls.specs.ThreadStacks.{threadSet}
-use Rattle.thread_stack_calls.proofs.thread_set.Statement.{statement}
-use Rattle.thread_stack_calls.proofs.thread_set.Tie as tie
+use Rattle.thread_set_calls.specs.ThreadSets.{threadSet}
+use Rattle.thread_set_calls.proofs.thread_set.Statement.{statement}
+use Rattle.thread_set_calls.proofs.thread_set.Tie as tie
 
 enter-requires : tie.Need-enter-requires
 enter-requires c κs = search needs
