@@ -26,6 +26,21 @@ pub enum Counter {
     Remaining,
 }
 
+/// One of the ten sizes.
+#[derive(Clone, Copy, Debug)]
+pub enum Size {
+    Strings,
+    Tables,
+    Functions,
+    Upvalues,
+    Userdata,
+    Threads,
+    Prototypes,
+    Stack,
+    Opens,
+    Frames,
+}
+
 /// A root that is a handle; `Type` has the index of a type.
 #[derive(Clone, Copy, Debug)]
 pub enum Root {
@@ -180,6 +195,7 @@ pub enum Answer {
     Str(Option<StrRef>),
     Upvalue(UpvalRef),
     Item(Item),
+    Userdata(Option<UdRef>),
     /// Words that no read gives.
     Odd([u32; 4]),
 }
@@ -227,6 +243,8 @@ impl From<[u32; 4]> for Answer {
             [3, 1, index, generation] => Some(Self::Str(Some(StrRef::new(index, generation)))),
             [4, index, generation, 0] => Some(Self::Upvalue(UpvalRef::new(index, generation))),
             [5, kind, index, generation] => item(kind, index, generation).map(Self::Item),
+            [6, 0, 0, 0] => Some(Self::Userdata(None)),
+            [6, 1, index, generation] => Some(Self::Userdata(Some(UdRef::new(index, generation)))),
             _ => None,
         };
         known.unwrap_or(Self::Odd(words))
@@ -250,6 +268,15 @@ fn asked(read: impl FnOnce(&mut [u32]) -> Result<(), Refused>) -> Asked {
 impl Words {
     pub fn counter(&self, counter: Counter) -> Asked {
         asked(|out| self.read_counter(counter as u32, out))
+    }
+
+    pub fn size(&self, size: Size) -> Asked {
+        asked(|out| self.read_size(size as u32, out))
+    }
+
+    /// The userdata whose finalizer is out.
+    pub fn out(&self) -> Asked {
+        asked(|out| self.read_out(out))
     }
 
     pub fn root(&self, root: Root, index: u32) -> Asked {

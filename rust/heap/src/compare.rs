@@ -4,7 +4,7 @@
 use crate::ours::Words;
 use crate::reading::read;
 use crate::words::{Waiting, transcribed};
-use oracle::{Oracle, Sizes, Snapshot};
+use oracle::{Oracle, Sizes, Snapshot, Value};
 
 /// The first place at which two buffers differ, as far as the second goes.
 fn difference<T: Copy + PartialEq>(ours: &[T], source: &[T]) -> Option<usize> {
@@ -25,13 +25,19 @@ fn compared_words(heap: &Words, source: &Snapshot) -> Result<(), String> {
     }
 }
 
-/// Holds all that the exported reads answer to the snapshot.
+/// Holds all that the exported reads answer to the snapshot, and to what it does not show of a
+/// finalizer that is out.
 ///
 /// # Errors
 /// The first difference, in words.
-pub fn compared_reads(heap: &Words, source: &Snapshot) -> Result<(), String> {
-    let ours = read(heap, source.sizes)?;
-    if ours == *source {
+pub fn compared_reads(heap: &Words, source: &Snapshot, waiting: Waiting) -> Result<(), String> {
+    let (ours, ours_waiting) = read(heap)?;
+    if ours_waiting != waiting {
+        return Err(format!("ours {ours_waiting:?}, not {waiting:?}"));
+    }
+    let mut source = source.clone();
+    source.out = source.out.map(|(d, _)| (d, Value::Nil));
+    if ours == source {
         return Ok(());
     }
     let (ours, source) = (ours.to_string(), source.to_string());
@@ -48,5 +54,5 @@ pub fn compared(heap: &Words, sizes: [u32; 10]) -> Result<(), String> {
         Oracle::new(Sizes::from(sizes)).map_err(|r| format!("the source refuses: {r:?}"))?;
     let source = source.snapshot();
     compared_words(heap, &source)?;
-    compared_reads(heap, &source)
+    compared_reads(heap, &source, Waiting::default())
 }

@@ -116,6 +116,8 @@ macro_rules! reads {
 
 reads! {
     read_counter: sieddesan_read_counter(counter);
+    read_size: sieddesan_read_size(size);
+    read_out: sieddesan_read_out();
     read_root: sieddesan_read_root(root, index);
     read_main: sieddesan_read_main(field, index);
     read_list: sieddesan_read_list(list, field, index);

@@ -3,10 +3,11 @@
 //! of the same slot with another generation, and of the slot after the last, must be refused with 2.
 
 use crate::ask::{
-    Answer, Asked, Closure, Counter, Handle, Item, Kind, List, Listed, Main, Proto, Root, Slot,
-    Table, Text, Thread, Upvalue, Userdata,
+    Answer, Asked, Closure, Counter, Handle, Item, Kind, List, Listed, Main, Proto, Root, Size,
+    Slot, Table, Text, Thread, Upvalue, Userdata,
 };
 use crate::ours::Words;
+use crate::words::Waiting;
 use oracle::{
     ClosureRecord, Colour, Counters, MainRecord, Phase, ProtoRecord, Sizes, Slots, Snapshot,
     StrRef, TableRecord, TableRef, ThreadRecord, UdRef, UpvalRecord, UpvalRef, UserdataRecord,
@@ -32,6 +33,7 @@ held!(table, Table, Option<TableRef>);
 held!(name, Str, Option<StrRef>);
 held!(upvalue, Upvalue, UpvalRef);
 held!(item, Item, Item);
+held!(userdata, Userdata, Option<UdRef>);
 
 fn small(asked: Asked) -> Result<u32, String> {
     let n = number(asked)?;
@@ -170,20 +172,38 @@ impl Reading<'_> {
         })
     }
 
-    /// The two names, which the source keeps beside its heap, and that no finalizer is out.
-    fn rest(&self) -> Result<(), String> {
+    /// The two names, which the source keeps beside its heap.
+    fn names(&self) -> Result<(), String> {
         let mode = name(self.0.root(Root::Mode, 0))?;
         let gc = name(self.0.root(Root::Gc, 0))?;
-        if (mode, gc) != (Some(StrRef::new(0, 0)), Some(StrRef::new(1, 0))) {
-            return Err(format!("names {mode:?} and {gc:?}"));
-        }
-        let interrupted = number(self.0.counter(Counter::Interrupted))?;
-        let remaining = number(self.0.counter(Counter::Remaining))?;
-        if (interrupted, remaining) == (0, 0) {
+        if (mode, gc) == (Some(StrRef::new(0, 0)), Some(StrRef::new(1, 0))) {
             Ok(())
         } else {
-            Err(format!("interrupted {interrupted}, remaining {remaining}"))
+            Err(format!("names {mode:?} and {gc:?}"))
         }
+    }
+
+    fn waiting(&self) -> Result<Waiting, String> {
+        Ok(Waiting {
+            interrupted: small(self.0.counter(Counter::Interrupted))?,
+            remaining: number(self.0.counter(Counter::Remaining))?,
+        })
+    }
+
+    fn sizes(&self) -> Result<Sizes, String> {
+        let ask = |size| small(self.0.size(size));
+        Ok(Sizes {
+            strings: ask(Size::Strings)?,
+            tables: ask(Size::Tables)?,
+            closures: ask(Size::Functions)?,
+            upvalues: ask(Size::Upvalues)?,
+            userdata: ask(Size::Userdata)?,
+            threads: ask(Size::Threads)?,
+            prototypes: ask(Size::Prototypes)?,
+            stack: ask(Size::Stack)?,
+            open: ask(Size::Opens)?,
+            frames: ask(Size::Frames)?,
+        })
     }
 
     fn list<T>(
@@ -329,14 +349,16 @@ impl Reading<'_> {
     }
 }
 
-/// A heap of these sizes with no finalizer out, read whole.
+/// A heap read whole. The method of a finalizer that is out was handed out with its userdata, and no
+/// heap of ours keeps it: nil stands for it.
 ///
 /// # Errors
 /// The first read that answers what it should not, in words.
-pub fn read(heap: &Words, sizes: Sizes) -> Result<Snapshot, String> {
+pub fn read(heap: &Words) -> Result<(Snapshot, Waiting), String> {
     let all = Reading(heap);
-    all.rest()?;
-    Ok(Snapshot {
+    all.names()?;
+    let sizes = all.sizes()?;
+    let whole = Snapshot {
         sizes,
         strings: all.slots(
             Kind::Strings,
@@ -375,6 +397,7 @@ pub fn read(heap: &Words, sizes: Sizes) -> Result<Snapshot, String> {
         queue: all.list(List::Queue, queue_item)?,
         counters: all.counters()?,
         main: all.main(sizes)?,
-        out: None,
-    })
+        out: userdata(heap.out())?.map(|d| (d, Value::Nil)),
+    };
+    Ok((whole, all.waiting()?))
 }

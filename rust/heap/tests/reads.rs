@@ -4,11 +4,12 @@
 mod common;
 
 use common::tried;
+use heap::layout::header;
 use heap::sizes::SMALLEST;
 use heap::words::{Waiting, transcribed};
 use heap::{Refused, Words, compared_reads, needed};
 use oracle::generate::{self, Generator};
-use oracle::{Oracle, Snapshot};
+use oracle::{Answer, Command, Driver, Oracle, Snapshot, Step};
 use std::cell::RefCell;
 use std::rc::Rc;
 
@@ -24,12 +25,9 @@ fn scripted(seed: u64, lines: u64) -> Snapshot {
 fn heaps_of_scripts_are_read_back() {
     let mut seen = [0; 9];
     for seed in 0..200 {
-        let source = scripted(seed, 400);
-        if source.out.is_some() {
-            continue;
-        }
-        let heap = transcribed(&source, Waiting::default());
-        assert_eq!(compared_reads(&heap, &source), Ok(()), "seed {seed}");
+        let (source, none) = (scripted(seed, 400), Waiting::default());
+        let heap = transcribed(&source, none);
+        assert_eq!(compared_reads(&heap, &source, none), Ok(()), "seed {seed}");
         let counts = [
             source.strings.occupied as usize,
             source.tables.occupied as usize,
@@ -46,6 +44,65 @@ fn heaps_of_scripts_are_read_back() {
         }
     }
     assert!(seen.iter().all(|n| *n > 100), "{seen:?}");
+}
+
+/// Commands, with the heap read back each time a finalizer is handed out.
+struct Watched {
+    commands: Generator,
+    seed: u64,
+    seen: u32,
+}
+
+impl Watched {
+    fn read_back(&self, source: &Snapshot) {
+        let waiting = Waiting {
+            interrupted: 1 + self.seen % 5,
+            remaining: self.seed << 32 | u64::from(self.seen),
+        };
+        let mut heap = transcribed(source, waiting);
+        let same = compared_reads(&heap, source, waiting);
+        assert_eq!(same, Ok(()), "seed {}, finalizer {}", self.seed, self.seen);
+        // Its index and its generation are looked at.
+        for place in [header::OUT, header::OUT + 1] {
+            heap.words[place] ^= 1;
+            let same = compared_reads(&heap, source, waiting);
+            assert!(same.is_err(), "seed {}, word {place}", self.seed);
+            heap.words[place] ^= 1;
+        }
+    }
+}
+
+impl Driver for Watched {
+    fn next(&mut self, heap: &Oracle) -> Option<Command> {
+        self.commands.next(heap)
+    }
+
+    fn answer(&mut self, heap: &Oracle, answer: &Answer) {
+        if let Answer::Step(Step::Handed(userdata, method)) = answer {
+            let source = heap.snapshot();
+            assert_eq!(source.out, Some((*userdata, *method)));
+            self.read_back(&source);
+            self.seen += 1;
+        }
+        self.commands.answer(heap, answer);
+    }
+}
+
+#[test]
+fn a_finalizer_that_is_out_is_read() {
+    let mut seen = 0;
+    for seed in 0..60 {
+        let watched = Rc::new(RefCell::new(Watched {
+            commands: Generator::new(seed, 400),
+            seed,
+            seen: 0,
+        }));
+        let driver: Rc<RefCell<dyn Driver>> = watched.clone();
+        let heap = Oracle::with_driver(generate::sizes(seed), driver);
+        heap.expect("sizes in range").run();
+        seen += watched.borrow().seen;
+    }
+    assert!(seen > 100, "{seen}");
 }
 
 /// The smallest heap, which has no closure, upvalue, userdata, thread or prototype.
