@@ -11,11 +11,11 @@ use main_record::prototypes::set_proto_constant;
 use main_record::prototypes::set_proto_counts;
 use main_record::prototypes::set_protos_used;
 use newheap::Made;
+use part_reads::Slots;
 use print::count;
 use print::say;
 use reads::Kind;
 use reads::Read;
-use reads::Slots;
 use value::FuncRef;
 use value::StrRef;
 use value::Value;
@@ -105,7 +105,7 @@ fn make_closure(w: &mut [u32; 16472], l: Lay)
 }
 
 fn is_black(w: &[u32], b: &[u8], k: Kind, i: u32) -> bool {
-    match reads::read_arena(w, b, k, Slots::Colour(i)) {
+    match part_reads::read_arena(w, b, k, Slots::Colour(i)) {
         Read::Number(n) => n == 4,
         _ => false,
     }

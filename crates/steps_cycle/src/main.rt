@@ -5,14 +5,14 @@
 // stored output were made.
 use accounts::Answer;
 use lines::number_at;
+use part_reads::Listed;
+use part_reads::Main;
+use part_reads::Which;
 use print::count;
 use print::long;
 use print::say;
 use reads::Counter;
-use reads::Listed;
-use reads::Main;
 use reads::Read;
-use reads::Which;
 use value::UdRef;
 ghost use Prim.Native.Nat.{_≤_};
 ghost use lib.ListN.{length};
@@ -135,7 +135,7 @@ fn listed(w: &[u32], b: &[u8], which: Which, i: u32) {
     if 0 < i {
         say(b", ");
     }
-    match reads::read_list(w, b, which, Listed::At(i)) {
+    match part_reads::read_list(w, b, which, Listed::At(i)) {
         Read::Item(x) => print_answer::item(x),
         _ => say(b"no item"),
     }
@@ -143,7 +143,7 @@ fn listed(w: &[u32], b: &[u8], which: Which, i: u32) {
 
 // How many items a list has; no list has room for more than 12,289.
 fn items(w: &[u32], b: &[u8], which: Which) -> u32 {
-    let n = number(reads::read_list(w, b, which, Listed::Length));
+    let n = number(part_reads::read_list(w, b, which, Listed::Length));
     if n < 12289 {
         return n as u32;
     }
@@ -249,14 +249,14 @@ fn cycle(w: &mut [u32; 9187], b: &mut [u8; 1024], by: By) {
 
 // The main stack is popped: its top is one less, and the value stays where it is.
 fn pop(w: &mut [u32; 9187], b: &[u8]) {
-    let top = number(reads::read_main(w, b, Main::Top));
+    let top = number(part_reads::read_main(w, b, Main::Top));
     if top == 0 {
         return;
     }
     if 256 < top {
         return;
     }
-    match reads::read_main(w, b, Main::Stack((top - 1) as u32)) {
+    match part_reads::read_main(w, b, Main::Stack((top - 1) as u32)) {
         Read::Value(v) => print_answer::value(v),
         _ => say(b"no value"),
     }
