@@ -18,7 +18,7 @@ enum-told : tie.Need-enum-told
 enum-told c = search needs
 
 generation-of-requires : tie.Need-generation-of-requires
-generation-of-requires c κs = search needs
+generation-of-requires c κs = (c .before .before .before .before .before .pre, omega arith)
 
 cast-t9 : tie.Need-cast-t9
 cast-t9 c = search needs
@@ -27,7 +27,7 @@ enum-told-2 : tie.Need-enum-told-2
 enum-told-2 c = search needs
 
 colour-of-requires : tie.Need-colour-of-requires
-colour-of-requires c κs = search needs
+colour-of-requires c κs = (c .before .before .before .before .before .pre, omega arith)
 
 cast-t11 : tie.Need-cast-t11
 cast-t11 c = search needs
@@ -36,7 +36,7 @@ enum-told-3 : tie.Need-enum-told-3
 enum-told-3 c = search needs
 
 link-of-requires : tie.Need-link-of-requires
-link-of-requires c κs = search needs
+link-of-requires c κs = (c .before .before .before .before .before .pre, omega arith)
 
 cast-t13 : tie.Need-cast-t13
 cast-t13 c = search needs
