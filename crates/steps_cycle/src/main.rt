@@ -17,10 +17,12 @@ use value::UdRef;
 ghost use Prim.Native.Nat.{_≤_};
 ghost use lib.ListN.{length};
 
-// How a cycle is made.
+// A call that steps.
 pub enum By {
     Single,
     Budget(u32),
+    Automatic,
+    Check,
     Full,
 }
 
@@ -47,7 +49,7 @@ fn words(w: &mut [u32; 9187], s: &[u8], at: usize)
     fill(w, from, from + base::wide(times.value), word.value);
 }
 
-// The rest of the line from `at` on, past one space, stands in the bytes from `place` on; there are 1024.
+// The rest of the line from `at` on stands in the bytes from `place` on; there are 1024.
 fn copy(b: &mut [u8; 1024], s: &[u8], at: usize, place: usize) {
     let mut i = at;
     let mut p = place;
@@ -65,7 +67,7 @@ fn copy(b: &mut [u8; 1024], s: &[u8], at: usize, place: usize) {
     }
 }
 
-// A line of text: its place, and the bytes.
+// A line of text: its place, a space, and the bytes.
 fn text(b: &mut [u8; 1024], s: &[u8], at: usize)
     requires { ⌜ at ≤ length (now s) ⌝ }
 {
@@ -117,16 +119,25 @@ fn arena(n: u64) {
     }
 }
 
-fn counters(w: &[u32], b: &[u8]) {
+// Phase and cursor.
+fn place(w: &[u32], b: &[u8]) {
     say(b"  ");
     print::phase(counter(w, b, Counter::Phase));
     say(b", cursor at ");
     arena(counter(w, b, Counter::CursorArena));
-    long(b" ", counter(w, b, Counter::CursorSlot), b"");
-    long(b", total ", counter(w, b, Counter::Total), b"");
-    long(b", peak ", counter(w, b, Counter::Peak), b"");
-    long(b", estimate ", counter(w, b, Counter::Estimate), b"");
-    long(b", threshold ", counter(w, b, Counter::Threshold), b"");
+}
+
+fn amount(w: &[u32], b: &[u8], name: &[u8], c: Counter) {
+    long(name, counter(w, b, c), b"");
+}
+
+// The cursor's slot, and the counters.
+fn counters(w: &[u32], b: &[u8]) {
+    amount(w, b, b" ", Counter::CursorSlot);
+    amount(w, b, b", total ", Counter::Total);
+    amount(w, b, b", peak ", Counter::Peak);
+    amount(w, b, b", estimate ", Counter::Estimate);
+    amount(w, b, b", threshold ", Counter::Threshold);
     print::signed(b", debt ", counter(w, b, Counter::Debt), b"\n");
 }
 
@@ -174,11 +185,12 @@ fn lists(w: &[u32], b: &[u8]) {
 // What is written after each call.
 fn show(w: &[u32], b: &[u8], a: Answer) {
     print_answer::answer(a);
+    place(w, b);
     counters(w, b);
     lists(w, b);
 }
 
-// The call by which the cycle is made.
+// A call, after its name.
 fn make(w: &mut [u32], b: &mut [u8], by: By) -> Answer {
     match by {
         By::Single => {
@@ -189,6 +201,14 @@ fn make(w: &mut [u32], b: &mut [u8], by: By) -> Answer {
             count(b"gc_step ", n, b": ");
             steps::gc_step(w, b, n as i64)
         }
+        By::Automatic => {
+            say(b"gc_step_auto: ");
+            steps::gc_step_auto(w, b)
+        }
+        By::Check => {
+            say(b"gc_check: ");
+            steps::gc_check(w, b)
+        }
         By::Full => {
             say(b"full_gc: ");
             steps::full_gc(w, b)
@@ -196,17 +216,16 @@ fn make(w: &mut [u32], b: &mut [u8], by: By) -> Answer {
     }
 }
 
+fn once(w: &mut [u32], b: &mut [u8], by: By) {
+    let a = make(w, b, by);
+    show(w, b, a);
+}
+
 // While a finalizer is out other steps are busy, an automatic one adds to the debt, and a check tests the limit.
 fn meanwhile(w: &mut [u32], b: &mut [u8]) {
-    say(b"gc_singlestep: ");
-    let single = steps::gc_singlestep(w, b);
-    show(w, b, single);
-    say(b"gc_step_auto: ");
-    let automatic = steps::gc_step_auto(w, b);
-    show(w, b, automatic);
-    say(b"gc_check: ");
-    let check = steps::gc_check(w, b);
-    show(w, b, check);
+    once(w, b, By::Single);
+    once(w, b, By::Automatic);
+    once(w, b, By::Check);
 }
 
 // The finalizer of r is over. That of userdata 6 fails.
@@ -264,20 +283,19 @@ fn pop(w: &mut [u32; 9187], b: &[u8]) {
     main_record::set_main_top(w, (top - 1) as usize);
 }
 
+fn pop_and_cycle(w: &mut [u32; 9187], b: &mut [u8; 1024], by: By) {
+    pop(w, b);
+    cycle(w, b, by);
+}
+
 fn cycles(w: &mut [u32; 9187], b: &mut [u8; 1024]) {
     cycle(w, b, By::Single);
-    pop(w, b);
-    cycle(w, b, By::Single);
-    pop(w, b);
-    cycle(w, b, By::Budget(0));
-    pop(w, b);
-    cycle(w, b, By::Budget(1));
-    pop(w, b);
-    cycle(w, b, By::Budget(100));
-    pop(w, b);
-    cycle(w, b, By::Budget(1000000000));
-    pop(w, b);
-    cycle(w, b, By::Full);
+    pop_and_cycle(w, b, By::Single);
+    pop_and_cycle(w, b, By::Budget(0));
+    pop_and_cycle(w, b, By::Budget(1));
+    pop_and_cycle(w, b, By::Budget(100));
+    pop_and_cycle(w, b, By::Budget(1000000000));
+    pop_and_cycle(w, b, By::Full);
 }
 
 fn main() {
