@@ -79,7 +79,7 @@ module _ (l : Lay) (ok : Laid l) (a : Apart l) (am : Ample l) (w b : List ℕ) (
     steps-ok : Ok l v b (Root l v b) (First l v) None 0 0 0 [] u
     steps-ok = advances-ok l ok a am v b v-long n (startCycle l w) started-ok
 
-    -- MARKED IS REACHED: from the first single step on, after any number of steps during Propagate and the first part of the atomic
+    -- Marked is reached: from the first single step on, after any number of steps during Propagate and the first part of the atomic
     -- phase.
     pub started-marked : (r : Ref) → (3 ≤ colourW l r (marked l b u)) ↔ Reached l w b r
     started-marked r =
