@@ -9,3 +9,4 @@ pub mod Notings
 pub mod Spares
 pub mod Survives
 pub mod Planned
+pub mod Alikes

@@ -260,7 +260,7 @@ module _ (l : Lay) (ok : Laid l) (a : Apart l) (am : Ample l) (y : Bodies l) (w 
       let g = cleared-entries l ok a b (at F WHITE) H H-long x (H-occupied x h) in
       begun-shade l ok a k (cleared (l .weak) (clearAll l b (at F WHITE) H)) x (subst (λ m. 1 ≤ m) (sym g) (H-occupied x h)) ∙ g
 
-  -- AFTER THE FLIP an occupied slot is not in the old white exactly if a root or a due userdata reaches it, or a kept weak
+  -- After the flip an occupied slot is not in the old white exactly if a root or a due userdata reaches it, or a kept weak
   -- table holds it as a string.
   pub flipped-exact : (k : ℕ) (x : Ref) → Occupied l w x → (colourW l x (begun k (flipped l b F)) ≢ at w WHITE) ↔ (Kept l w b x ⊎ Spared l w b x)
   flipped-exact k x i =
@@ -280,7 +280,7 @@ module _ (l : Lay) (ok : Laid l) (a : Apart l) (am : Ample l) (y : Bodies l) (w 
       high : (p q : ℕ) → 3 ≤ p → p ≡ q → q ≤ 2 → ⊥
       high p q h g k = omega (arith, h, g, k)
 
--- AFTER THE ATOMIC PHASE: from a heap at Pause with every occupied slot in the current white and an empty queue, after the roots
+-- After the atomic phase: from a heap at Pause with every occupied slot in the current white and an empty queue, after the roots
 -- are marked, any number of steps are made and the atomic step is done, an occupied slot is not in the old white exactly if a
 -- root or a due userdata reaches it, or a kept weak table holds it as a string.
 pub atomic-exact : (l : Lay) → Laid l → Apart l → Ample l → Bodies l → (w b : List ℕ) → l .words ≤ length w → AllWhite l w → lengthOf (l .queue) w ≡ 0

@@ -272,7 +272,7 @@ module _ (l : Lay) (ok : Laid l) (a : Apart l) (am : Ample l) (w b : List ℕ) (
       let v = cleared (l .grayagain) (againAll l b (markMain (ops l) l u)) in
       (for-ok l ok a am w b long (rounds l) 0 0 0 v d, all-empty l ok a b v (whole-long l ok a am w long (d .whole)))
 
-  -- MARKED IS REACHED. After the roots are marked, any number of steps are made and the first part of the atomic phase is done,
+  -- Marked is reached. After the roots are marked, any number of steps are made and the first part of the atomic phase is done,
   -- what is gray or black is exactly what the roots reach.
   pub marked-exact : AllWhite l w → (n : ℕ) (r : Ref) → (3 ≤ colourW l r (marked l b (advances l b n (rooted l w)))) ↔ Reached l w b r
   marked-exact f n r =

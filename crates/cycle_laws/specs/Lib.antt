@@ -1,0 +1,3 @@
+pub mod Phases
+pub mod Singles
+pub mod Collects
