@@ -14,7 +14,7 @@ use heap::layout::header;
 use heap::words::{Waiting, phase, transcribed};
 use oracle::{Oracle, Phase, Sizes, Step, TableRef, Value};
 use std::hint::black_box;
-use steps::engine::{Call, Engine, OUT};
+use steps::engine::{Call, Engine, KINDS, OUT};
 use steps::linked;
 use timing::timed;
 
@@ -239,6 +239,21 @@ fn full_collection(rounds: usize, ours: &mut Option<Ours>, heap: &mut Oracle) {
     assert_eq!(heap.snapshot().tables.occupied, TABLES, "all are live");
 }
 
+/// What every call of ours begins with, shown apart: test 1 and layout. A step while a finalizer is
+/// out does no more, and changes nothing.
+fn fixed_cost(rounds: usize, ours: &mut Option<Ours>) {
+    let Some(ours) = ours else { return };
+    let mut heap = words(&rooted());
+    heap.words[header::INTERRUPTED] = 1;
+    let mut out = [0; OUT];
+    timing::one("test 1 and layout, in each call", "ours", rounds, || {
+        timed(BATCH as u32, || {
+            let code = Call::Single.make(ours.engine.as_mut(), &mut heap, &mut out);
+            assert_eq!((black_box(code), KINDS[out[0] as usize]), (0, "busy"));
+        })
+    });
+}
+
 fn main() {
     let rounds = timing::rounds();
     let mut heap = graph();
@@ -253,4 +268,5 @@ fn main() {
     full_collection(rounds, &mut ours, &mut heap);
     sweep(rounds, &mut ours, &mut heap);
     root_marking(rounds, &mut ours);
+    fixed_cost(rounds, &mut ours);
 }
