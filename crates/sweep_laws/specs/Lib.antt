@@ -1,2 +1,3 @@
 pub mod Batches
 pub mod Places
+pub mod Turns
