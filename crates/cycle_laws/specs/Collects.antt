@@ -7,7 +7,7 @@
 use mathlib.Core.Path.{_≡_, sym, ap, subst, _∙_}
 use mathlib.Core.List.{List, [], List·Memᴰ}
 use mathlib.Core.Logic.{_⊎_, inl, inr, ⊎-elim, _↔_, _≢_}
-use Prim.Native.Nat.{ℕ, min, _+_, _≤_}
+use Prim.Native.Nat.{ℕ, min, _+_, _≤_, _<_}
 use native.Mathlib.Omega.{arith}
 use lib.ListN.{length, length-set}
 use Rattle.base.specs.Words.{at}
@@ -76,7 +76,7 @@ module _ (l : Lay) (ok : Laid l) (a : Apart l) (am : Ample l) (w b : List ℕ) (
     abbrev u : List ℕ
     u = advances l b n (startCycle l w)
 
-    steps-ok : Ok l v b (Root l v b) (First l v) None 0 0 0 [] u
+    pub steps-ok : Ok l v b (Root l v b) (First l v) None 0 0 0 [] u
     steps-ok = advances-ok l ok a am v b v-long n (startCycle l w) started-ok
 
     -- Marked is reached: from the first single step on, after any number of steps during Propagate and the first part of the atomic
@@ -113,12 +113,14 @@ module _ (l : Lay) (ok : Laid l) (a : Apart l) (am : Ample l) (w b : List ℕ) (
 
 -- The single steps from Pause, every occupied slot in the current white and the queue empty: after n + 2 of them, for some n, the
 -- atomic step is done; an occupied slot is not in the old white then exactly if it is kept or spared, and no damage was marked.
+-- Before them the phase is Pause or Propagate.
 pub record Collected (l : Lay) (w b : List ℕ) : Type 0 where
   pub steps : ℕ
   pub few : steps ≤ rounds l
   pub state : singles l (steps + 2) (heap w b) ≡ heap (atomic l b (advances l b steps (startCycle l w))) b
   pub exact : (r : Ref) → Occupied l w r → (colourW l r (singles l (steps + 2) (heap w b) .words) ≢ at w WHITE) ↔ (Kept l w b r ⊎ Spared l w b r)
   pub whole : at (singles l (steps + 2) (heap w b) .words) damage ≡ at w damage
+  pub before : (i : ℕ) → i < steps + 2 → at (singles l i (heap w b) .words) PHASE ≤ 1
 
 pub collected : (l : Lay) → Laid l → Apart l → Ample l → Bodies l → (w b : List ℕ) → l .words ≤ length w → at w PHASE ≡ 0 → AllWhite l w → lengthOf (l .queue) w ≡ 0 → Collected l w b
 collected l ok a am y w b long e f none =
@@ -129,6 +131,7 @@ collected l ok a am y w b long e f none =
       state = r .3;
       exact = λ x i. subst (λ (h : List ℕ). (colourW l x h ≢ at w WHITE) ↔ (Kept l w b x ⊎ Spared l w b x)) (sym (ap (λ h. h .words) (r .3))) (started-exact l ok a am w b long f (r .0) none y x i);
       whole = ap (λ h. at (h .words) damage) (r .3) ∙ started-whole l ok a am w b long f (r .0) none;
+      before = r .4;
     }
 
 -- So for the layout of any sizes within their ranges.
