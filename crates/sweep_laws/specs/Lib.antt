@@ -1,3 +1,4 @@
 pub mod Batches
 pub mod Places
 pub mod Turns
+pub mod Repaints

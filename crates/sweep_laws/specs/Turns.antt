@@ -48,9 +48,11 @@ abbrev pub To : Lay → ℕ → ℕ → Heap → Heap → List ℕ → Type 0
 To l k n h h′ before = Clean (arenaOf l k) (otherWhite (at (h .words) WHITE)) (at (h .words) WHITE) n h h′ before
 
 -- The sweep that began at the heap h₀ is at slot n of arena j: the arenas before it are swept, those after it are as they were.
--- At the strings the phase is SweepString, at the others Sweep, past the last it is Finalize.
+-- At the strings the phase is SweepString, at the others Sweep, past the last it is Finalize. Settings, roots and the damage mark,
+-- the first 53 words, stay.
 pub record Stage (l : Lay) (h₀ : Heap) (v : Arenas l (h₀ .words)) (j n : ℕ) (h : Heap) : Type 0 where
   pub long : length (h .words) ≡ length (h₀ .words)
+  pub first : (x : ℕ) → x < 53 → at (h .words) x ≡ at (h₀ .words) x
   pub white : at (h .words) WHITE ≡ at (h₀ .words) WHITE
   pub most : j ≤ 6
   pub strings : j ≡ 0 → (at (h .words) PHASE ≡ 2) × (at (h .words) CURSOR-SLOT ≡ n)
@@ -64,6 +66,7 @@ pub record Stage (l : Lay) (h₀ : Heap) (v : Arenas l (h₀ .words)) (j n : ℕ
 pub stage-first : (l : Lay) (h : Heap) (v : Arenas l (h .words)) → at (h .words) PHASE ≡ 2 → at (h .words) CURSOR-SLOT ≡ 0 → Stage l h v 0 0 h
 stage-first l h v p c = record {
   long = refl;
+  first = λ x p. refl;
   white = refl;
   most = omega arith;
   strings = λ e. (p, c);
@@ -95,9 +98,10 @@ others-step l h e =
     (eq-no (at (h .words) PHASE) 2 (Cost 10, sweepStrings l h) _ (Cost 800, sweepOthers l h) (λ z. omega (arith, z, e))
     (eq-yes (at (h .words) PHASE) 3 (Cost 800, sweepOthers l h) _ (Cost 800, sweepOthers l h) e refl)))))
 
--- What a step writes beside the batch: the words from 73 on and the white stay.
+-- What a step writes beside the batch: the first 53 words, those from 73 on and the white stay.
 pub record Low (w u : List ℕ) : Type 0 where
   pub long : length u ≡ length w
+  pub first : (x : ℕ) → x < 53 → at u x ≡ at w x
   pub high : (x : ℕ) → 73 ≤ x → at u x ≡ at w x
   pub white : at u WHITE ≡ at w WHITE
 
@@ -109,6 +113,7 @@ taken-low n w =
     let cs : List (ℕ × ℕ) = (ESTIMATE, at w₁ ESTIMATE - n) ∷ (TOTAL, at w TOTAL - n) ∷ [] in (
       record {
         long = puts-length cs w;
+        first = λ x h. puts-far cs w x ((λ e. omega (arith, e, h)), ((λ e. omega (arith, e, h)), tt));
         high = λ x h. puts-far cs w x ((λ e. omega (arith, e, h)), ((λ e. omega (arith, e, h)), tt));
         white = puts-far cs w WHITE ((λ e. omega (arith, e)), ((λ e. omega (arith, e)), tt));
       },
@@ -122,6 +127,7 @@ cursor-low w₀ w s c =
     let cs : List (ℕ × ℕ) = (CURSOR-SLOT, c .«slot_position») ∷ (CURSOR-ARENA, c .«arena_index») ∷ [] in
     record {
       long = puts-length cs w ∙ s .long;
+      first = λ x h. puts-far cs w x ((λ e. omega (arith, e, h)), ((λ e. omega (arith, e, h)), tt)) ∙ s .first x h;
       high = λ x h. puts-far cs w x ((λ e. omega (arith, e, h)), ((λ e. omega (arith, e, h)), tt)) ∙ s .high x h;
       white = puts-far cs w WHITE ((λ e. omega (arith, e)), ((λ e. omega (arith, e)), tt)) ∙ s .white;
     }
@@ -131,6 +137,7 @@ phase-low w₀ w s p =
     let cs : List (ℕ × ℕ) = (PHASE, p) ∷ [] in
     record {
       long = puts-length cs w ∙ s .long;
+      first = λ x h. puts-far cs w x ((λ e. omega (arith, e, h)), tt) ∙ s .first x h;
       high = λ x h. puts-far cs w x ((λ e. omega (arith, e, h)), tt) ∙ s .high x h;
       white = puts-far cs w WHITE ((λ e. omega (arith, e)), tt) ∙ s .white;
     }
@@ -201,6 +208,9 @@ module _ (l : Lay) (ok : Laid l) (a : Apart l) (r : Rows l) (h₀ : Heap) (v : A
       all-long : length u ≡ length (h₀ .words)
       all-long = e .long ∙ does .cleaned .long ∙ s .long
 
+      all-first : (x : ℕ) → x < 53 → at u x ≡ at (h₀ .words) x
+      all-first x p = e .first x p ∙ same-word x (omega (arith, p)) ∙ s .first x p
+
       all-white : at u WHITE ≡ at (h₀ .words) WHITE
       all-white = e .white ∙ same-word WHITE (omega arith) ∙ s .white
 
@@ -213,6 +223,7 @@ module _ (l : Lay) (ok : Laid l) (a : Apart l) (r : Rows l) (h₀ : Heap) (v : A
         q .0 .next,
         record {
           long = all-long;
+          first = all-first;
           white = all-white;
           most = omega (arith, i);
           strings = f;
@@ -236,6 +247,7 @@ module _ (l : Lay) (ok : Laid l) (a : Apart l) (r : Rows l) (h₀ : Heap) (v : A
         0,
         record {
           long = all-long;
+          first = all-first;
           white = all-white;
           most = omega (arith, i);
           strings = λ z. absurd (let y : ⊥ = omega (arith, z) in y);
@@ -412,6 +424,7 @@ module _ (l : Lay) (ok : Laid l) (a : Apart l) (r : Rows l) (h₀ : Heap) (v : A
       let e : j ≡ 6 = omega (arith, s .most, d) in
       record {
         long = s .long;
+        first = s .first;
         white = s .white;
         most = omega arith;
         strings = λ z. absurd (let y : ⊥ = omega (arith, z) in y);
@@ -491,12 +504,14 @@ abbrev pub slotsOf : Lay → ℕ
 slotsOf l = l .strings .slots + l .tables .slots + l .functions .slots + l .upvalues .slots + l .userdata .slots + l .threads .slots
 
 -- The sweep: from a heap at SweepString, the cursor at the first slot, the six arenas well-formed. After m single steps the phase
--- is Finalize, first then; and each arena is swept up to its end.
+-- is Finalize, first then; each arena is swept up to its end; settings, roots, damage mark and white stay.
 pub record SweepDone (l : Lay) (h : Heap) (v : Arenas l (h .words)) : Type 0 where
   pub steps : ℕ
   pub few : 80 * steps ≤ slotsOf l + 480
   pub finalize : at (singles l steps h .words) PHASE ≡ 4
   pub first : (i : ℕ) → i < steps → at (singles l i h .words) PHASE ≢ 4
+  pub kept : (x : ℕ) → x < 53 → at (singles l steps h .words) x ≡ at (h .words) x
+  pub white : at (singles l steps h .words) WHITE ≡ at (h .words) WHITE
   pub arenas : (k : ℕ) (i : k ≤ 5) → To l k (fresh (arenaOf l k) (h .words)) h (singles l steps h) (v k i .free)
 
 pub sweep-done : (l : Lay) → Laid l → Apart l → Rows l → (h : Heap) (v : Arenas l (h .words)) → l .words ≤ length (h .words) → 1 ≤ at (h .words) WHITE → at (h .words) WHITE ≤ 2
@@ -508,5 +523,7 @@ sweep-done l ok a r h v long low high p c =
       few = omega (arith, u .1);
       finalize = u .2 .ended refl;
       first = u .3;
+      kept = u .2 .first;
+      white = u .2 .white;
       arenas = λ k i. u .2 .done k i (omega (arith, i));
     }
