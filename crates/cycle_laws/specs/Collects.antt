@@ -89,7 +89,7 @@ module _ (l : Lay) (ok : Laid l) (a : Apart l) (am : Ample l) (w b : List ℕ) (
         ((λ m. reached-alike (frame-one l ok) b (alike-back s) r (k .0 m)), λ m. k .1 (reached-alike (frame-one l ok) b s r m))
 
     module _ (none : lengthOf (l .queue) w ≡ 0) where
-      none-v : lengthOf (l .queue) v ≡ 0
+      pub none-v : lengthOf (l .queue) v ≡ 0
       none-v = ap (λ (k : ℕ). min k (l .queue .room)) (phase-word 1 w (l .queue .count) (λ e. omega (arith, e, queue-count l ok))) ∙ none
 
       -- After the atomic phase an occupied slot is not in the old white exactly if it is kept or spared.

@@ -2,3 +2,4 @@ pub mod Batches
 pub mod Places
 pub mod Turns
 pub mod Repaints
+pub mod Collections
