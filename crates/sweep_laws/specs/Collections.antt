@@ -3,9 +3,9 @@
 --     ToFree, Freed, Collection     what is to be freed; one arena then; the whole
 --     freed-exactly, planned-freed     the theorem; for the layout of any sizes
 use mathlib.Core.Path.{_≡_, refl, sym, subst, ap, _∙_}
-use mathlib.Core.Logic.{inl, inr, ⊎-elim, _≢_, _↔_}
-use mathlib.Core.List.{List, _++_, List·Memᴰ}
-use Prim.Native.Nat.{ℕ, zero, suc, _+_, _-_, _*_, _%_, _^_, _≤_, _<_}
+use mathlib.Core.Logic.{_⊎_, inl, inr, ⊎-elim, _≢_, _↔_}
+use mathlib.Core.List.{List, [], _++_, List·Memᴰ}
+use Prim.Native.Nat.{ℕ, zero, suc, min, _+_, _-_, _*_, _%_, _^_, _≤_, _<_}
 use native.Mathlib.Decide.{ℕ-discrete, decLt}
 use native.Mathlib.Omega.{arith}
 use lib.ListN.{length, length-set}
@@ -30,17 +30,24 @@ use Rattle.sweep_step.specs.Rooms.{swept-wide, strings-wide}
 use Rattle.step.specs.Step.{startCycle, singleStep}
 use Rattle.mark_laws.specs.Apart.{Apart, apart, laid-of, Order, order}
 use Rattle.mark_laws.specs.Colours.{shade-parts}
+use Rattle.mark_laws.specs.Changes.{tops}
 use Rattle.room_laws.specs.Tallies.{Ample, ample}
-use Rattle.reach.specs.Reached.{Occupied}
+use Rattle.room_laws.specs.Payments.{whole-long}
+use Rattle.room_laws.specs.Queues.{queue-count}
+use Rattle.room_laws.specs.Atomics.{atomic-whole}
+use Rattle.reach.specs.Reached.{Occupied, Root}
 use Rattle.reach.specs.Cycle.{AllWhite, advances}
-use Rattle.reach.specs.Exact.{marked-ok}
+use Rattle.reach.specs.Oks.{Ok}
+use Rattle.reach.specs.Exact.{None, First, marked-ok}
 use Rattle.atomic_laws.specs.Kept.{Kept, Spared}
 use Rattle.atomic_laws.specs.Bodies.{Bodies, bodies}
+use Rattle.atomic_laws.specs.Notes.{Noted}
+use Rattle.atomic_laws.specs.Notings.{marked-noted}
 use Rattle.atomic_laws.specs.Dues.{shade-colour}
-use Rattle.atomic_laws.specs.Survives.{other-white}
-use Rattle.cycle_laws.specs.Phases.{phased, phase-word, phase-white}
+use Rattle.atomic_laws.specs.Survives.{other-white, flipped-exact}
+use Rattle.cycle_laws.specs.Counters.{stored, phase-counter, stored-word, stored-white}
 use Rattle.cycle_laws.specs.Singles.{singles}
-use Rattle.cycle_laws.specs.Collects.{steps-ok, none-v, Collected, collected}
+use Rattle.cycle_laws.specs.Collects.{steps-ok, steps-noted, none-v, Collected, collected}
 use Rattle.sweep_laws.specs.Batches.{Clean}
 use Rattle.sweep_laws.specs.Places.{Rows, rows, arena-at}
 use Rattle.sweep_laws.specs.Turns.{Arenas, To, slotsOf, SweepDone, sweep-done}
@@ -118,174 +125,204 @@ six-wide : (l : Lay) → Laid l → (k : ℕ) → k ≤ 5 → (n : ℕ) → l .b
 six-wide l ok zero i n h = strings-wide l n ok h
 six-wide l ok (suc k) i n h = subst (λ (a : Arena). a .slots * a .width ≤ n) (arena-at l k (omega (arith, i))) (swept-wide l k ok n h)
 
--- What the atomic step leaves: arenas in which only colours changed, the white flipped, the cursor at the first string.
-pub record Left (l : Lay) (w u : List ℕ) : Type 0 where
-  pub paint : Repainted l w u
-  pub white : at u WHITE ≡ otherWhite (at w WHITE)
-  pub phase : at u PHASE ≡ 2
-  pub cursor : at u CURSOR-SLOT ≡ 0
+-- The heap that the atomic step leaves: of the arenas only colours changed, the white flipped, the cursor is at the first string; an
+-- occupied slot is not in the old white exactly if it is kept or spared.
+pub record Ready (l : Lay) (w b : List ℕ) (h : Heap) : Type 0 where
+  pub paint : Repainted l w (h .words)
+  pub bytes : h .bytes ≡ b
+  pub white : at (h .words) WHITE ≡ otherWhite (at w WHITE)
+  pub phase : at (h .words) PHASE ≡ 2
+  pub cursor : at (h .words) CURSOR-SLOT ≡ 0
+  pub whole : at (h .words) damage ≡ at w damage
+  pub exact : (r : Ref) → Occupied l w r → (colourW l r (h .words) ≢ at w WHITE) ↔ (Kept l w b r ⊎ Spared l w b r)
+
+module _ (l : Lay) (ok : Laid l) (a : Apart l) (r : Rows l) (w b : List ℕ) (long : l .words ≤ length w) (f : AllWhite l w) (v : Arenas l w) (h₁ : Heap) (x : Ready l w b h₁) where
+  -- its arenas are well-formed, with the same chains
+  abbrev pub ready-arenas : Arenas l (h₁ .words)
+  ready-arenas k i = repainted-keeps l ok a r (x .paint) k i (v k i) .0
+
+  -- so the sweep begins
+  pub ready-long : l .words ≤ length (h₁ .words)
+  ready-long = omega (arith, long, x .paint .long)
+
+  pub ready-low : 1 ≤ at (h₁ .words) WHITE
+  ready-low = omega (arith, x .white, other-white (at w WHITE) (f .low) (f .high) .0)
+
+  pub ready-high : at (h₁ .words) WHITE ≤ 2
+  ready-high = omega (arith, x .white, other-back (at w WHITE) (f .low) (f .high) .1)
+
+  -- the old white is the white before
+  old : otherWhite (at (h₁ .words) WHITE) ≡ at w WHITE
+  old = ap (λ (n : ℕ). otherWhite n) (x .white) ∙ other-back (at w WHITE) (f .low) (f .high) .0
+
+  -- When all arenas are swept:
+  module _ (wide : l .bytes ≤ length b) (h₂ : Heap) (flip : at (h₂ .words) WHITE ≡ at (h₁ .words) WHITE)
+      (swept : (k : ℕ) (i : k ≤ 5) → To l k (fresh (arenaOf l k) (h₁ .words)) h₁ h₂ (ready-arenas k i .free)) (k : ℕ) (g : k ≤ 5) where
+    s : To l k (fresh (arenaOf l k) (h₁ .words)) h₁ h₂ (ready-arenas k g .free)
+    s = swept k g
+
+    same-fresh : fresh (arenaOf l k) (h₁ .words) ≡ fresh (arenaOf l k) w
+    same-fresh = repainted-fresh l ok a r (x .paint) k g
+
+    -- a slot freed lies below the fresh index
+    below : (i : ℕ) → List·Memᴰ i (s .gone) → (i < fresh (arenaOf l k) w) × (i < (arenaOf l k) .slots)
+    below i m = let q = s .is i .0 m in (omega (arith, q .0, same-fresh), omega (arith, q .0, same-fresh, v k g .within))
+
+    used-w : (i : ℕ) → i < fresh (arenaOf l k) w → i < used (arenaOf l k) w
+    used-w i h = omega (arith, h, v k g .within)
+
+    -- an occupied slot lies there too
+    occupied-below : (i : ℕ) → Occupied l w (slotAt l w k i) → (i < fresh (arenaOf l k) w) × (i < (arenaOf l k) .slots)
+    occupied-below i h = let p = shade-parts (arenaOf l k) i (gen (arenaOf l k) i w) w h in (omega (arith, p .0), omega (arith, p .0))
+
+    -- the colour of its handle is its colour, before the collection and after the atomic step
+    own-w : (i : ℕ) → i < fresh (arenaOf l k) w → colourW l (slotAt l w k i) w ≡ colour (arenaOf l k) i w
+    own-w i h = shade-colour (arenaOf l k) i (gen (arenaOf l k) i w) w (used-w i h) refl
+
+    own-h : (i : ℕ) → i < fresh (arenaOf l k) w → colourW l (slotAt l w k i) (h₁ .words) ≡ colour (arenaOf l k) i (h₁ .words)
+    own-h i h =
+        shade-colour (arenaOf l k) i (gen (arenaOf l k) i w) (h₁ .words) (omega (arith, h, same-fresh, v k g .within))
+        (repainted-gen l ok a r (x .paint) k g i (omega (arith, h, v k g .within)))
+
+    -- occupied is not free, before and after
+    not-free : (i : ℕ) → Occupied l w (slotAt l w k i) → colour (arenaOf l k) i (h₁ .words) ≢ 0
+    not-free i h z =
+        let q = occupied-below i h in
+        none-of (colourW l (slotAt l w k i) w) (colour (arenaOf l k) i w) h (own-w i (q .0)) (repainted-free l ok a r (x .paint) k g i (q .1) .1 z)
+      where
+        none-of : (p q : ℕ) → 1 ≤ p → p ≡ q → q ≡ 0 → ⊥
+        none-of p q f g e = omega (arith, f, g, e)
+
+    was-occupied : (i : ℕ) → i < fresh (arenaOf l k) w → i < (arenaOf l k) .slots → colour (arenaOf l k) i (h₁ .words) ≡ at w WHITE → Occupied l w (slotAt l w k i)
+    was-occupied i h t e =
+        some-of (colourW l (slotAt l w k i) w) (colour (arenaOf l k) i w) (own-w i h)
+        (λ z. white-of (colour (arenaOf l k) i (h₁ .words)) e (repainted-free l ok a r (x .paint) k g i t .0 z))
+      where
+        some-of : (p q : ℕ) → p ≡ q → q ≢ 0 → 1 ≤ p
+        some-of p q e d = omega (arith, e, d)
+
+        white-of : (p : ℕ) → p ≡ at w WHITE → p ≡ 0 → ⊥
+        white-of p e z = omega (arith, e, z, f .low)
+
+    -- What is freed is to be freed,
+    freed-is : (i : ℕ) → List·Memᴰ i (s .gone) → ToFree l w b (slotAt l w k i)
+    freed-is i m =
+        let q = below i m in
+        let e : colour (arenaOf l k) i (h₁ .words) ≡ at w WHITE = s .is i .0 m .1 ∙ old in
+        let occ = was-occupied i (q .0) (q .1) e in (
+          occ,
+          (λ z. x .exact (slotAt l w k i) occ .1 (inl z) (own-h i (q .0) ∙ e)),
+          (λ z. x .exact (slotAt l w k i) occ .1 (inr z) (own-h i (q .0) ∙ e)),
+        )
+
+    -- and what is to be freed is freed.
+    is-freed : (i : ℕ) → ToFree l w b (slotAt l w k i) → List·Memᴰ i (s .gone)
+    is-freed i t = go (ℕ-discrete (colourW l (slotAt l w k i) (h₁ .words)) (at w WHITE))
+      where
+        go : Dec (colourW l (slotAt l w k i) (h₁ .words) ≡ at w WHITE) → List·Memᴰ i (s .gone)
+        go (yes e) =
+            let q = occupied-below i (t .0) in
+            s .is i .1 (omega (arith, q .0, same-fresh), sym (own-h i (q .0)) ∙ e ∙ sym old)
+        go (no d) = absurd (⊎-elim (λ z. t .1 z) (λ z. t .2 z) (x .exact (slotAt l w k i) (t .0) .0 d))
+
+    -- One arena.
+    pub arena-freed : Freed l w b k (v k g .free) h₁ h₂
+    arena-freed = record {
+      gone = s .gone;
+      falls = s .falls;
+      is = λ i. (freed-is i, is-freed i);
+      keeps = s .keeps;
+      chain = s .chain ∙ ap (λ (q : List ℕ). s .gone ++ q) (repainted-keeps l ok a r (x .paint) k g (v k g) .1);
+      died = s .died;
+      aged = λ i m. s .aged i m ∙ ap (λ (n : ℕ). (n + 1) % 2 ^ 32) (repainted-gen l ok a r (x .paint) k g i (below i m .1));
+      zeroed = λ i j m h. s .zeroed i j m (subst (λ (n : ℕ). j < n) (sym (repainted-extent l ok a r (x .paint) k g i (below i m .1))) h);
+      erased = λ i j m h. s .erased (subst (λ (n : ℕ). (arenaOf l k) .slots * (arenaOf l k) .width ≤ n) (sym (ap length (x .bytes))) (six-wide l ok k g (length b) wide)) i j m h;
+      lives = λ i h m.
+          let q = occupied-below i h in
+          let t : i < fresh (arenaOf l k) (h₁ .words) = omega (arith, q .0, same-fresh) in
+          s .painted i t (not-free i h) (λ e. m (s .is i .1 (t, e))) ∙ sym flip;
+      idle = λ i h e. s .idle i h (repainted-free l ok a r (x .paint) k g i h .0 e);
+      gens = λ i h m. s .gens i h m ∙ repainted-gen l ok a r (x .paint) k g i h;
+      extents = λ i h m. s .extents i h m ∙ repainted-extent l ok a r (x .paint) k g i h;
+      bodies = s .bodies;
+      texts = λ i j h m p. s .texts i j h m p ∙ ap (λ (q : List ℕ). at q (i * (arenaOf l k) .width + j)) (x .bytes);
+    }
+
 
 module _ (l : Lay) (ok : Laid l) (a : Apart l) (r : Rows l) (am : Ample l) (y : Bodies l) (w b : List ℕ) (long : l .words ≤ length w) (f : AllWhite l w) (none : lengthOf (l .queue) w ≡ 0) where
-  pub atomic-left : (n : ℕ) → Left l w (atomic l b (advances l b n (startCycle l w)))
+  -- The second part of the atomic phase, from words u in which what the roots reach is marked.
+  pub atomic-ready : (u : List ℕ) → Ok l w b (Root l w b) (First l w) None 0 0 0 [] u → Noted l w b u → Ready l w b (heap (atomic l b u) b)
   unfolding atomic
-  atomic-left n =
-      let p : List ℕ = phased 1 w in
-      let u : List ℕ = advances l b n (startCycle l w) in
-      let p-long : l .words ≤ length p = omega (arith, long, length-set w PHASE 1) in
-      let d = marked-ok l ok a am p b p-long u (steps-ok l ok a am w b long f n) in
-      let x = atomic-repainted l ok a r am y p b p-long (phase-white l ok a 1 f) (none-v l ok a am w b long f n none) (marked l b u) (d .0) (d .1) (finished l b (marked l b u) .0) in
+  atomic-ready u c n =
+      let d = marked-ok l ok a am w b long u c in
+      let m = marked-noted l ok a am w b long u c n in
+      let x = atomic-repainted l ok a r am y w b long f none (marked l b u) (d .0) (d .1) (finished l b (marked l b u) .0) in
       record {
-        paint = repainted-then (low-repainted l ok a r (length-set w PHASE 1) (λ q g h. phase-word 1 w q (λ e. omega (arith, e, g)))) (x .0);
-        white = x .1 ∙ ap (λ (n : ℕ). otherWhite n) (phase-word 1 w WHITE (omega arith));
+        paint = x .0;
+        bytes = refl;
+        white = x .1;
         phase = x .2;
         cursor = x .3;
+        whole = atomic-whole l ok a am b u (whole-long l ok a am w long (c .whole)) (c .whole .paid) (queue u c) ∙ c .whole .mark;
+        exact = λ q i. flipped-exact l ok a am y w b long f none (marked l b u) (d .0) (d .1) m _ q i;
+      }
+    where
+      queue : (u : List ℕ) → Ok l w b (Root l w b) (First l w) None 0 0 0 [] u → lengthOf (l .queue) u ≡ 0
+      queue u c = ap (λ (k : ℕ). min k (l .queue .room)) (c .marked .kept (l .queue .count) (tops (omega (arith, queue-count l ok)) (omega (arith, queue-count l ok)))) ∙ none
+
+-- Demand 3 by single steps.
+module _ (l : Lay) (ok : Laid l) (a : Apart l) (r : Rows l) (am : Ample l) (y : Bodies l) (w b : List ℕ) (long : l .words ≤ length w) (f : AllWhite l w) (none : lengthOf (l .queue) w ≡ 0)
+    (wide : l .bytes ≤ length b) (pause : at w PHASE ≡ 0) (v : Arenas l w) where
+  c : Collected l w b
+  c = collected l ok a am y w b long pause f none
+
+  -- the steps up to and with the atomic one
+  abbrev marking : ℕ
+  marking = c .steps + 2
+
+  abbrev h₁ : Heap
+  h₁ = singles l (c .steps + 2) (heap w b)
+
+  x : Ready l w b h₁
+  x =
+      let t = subst (λ (h : Heap). Ready l (stored PHASE 1 w) b h) (sym (c .state)) (atomic-ready l ok a r am y (stored PHASE 1 w) b (omega (arith, long, length-set w PHASE 1)) (stored-white l ok a PHASE phase-counter 1 f) (none-v l ok a am w b long f (c .steps) none) (advances l b (c .steps) (startCycle l w)) (steps-ok l ok a am w b long f (c .steps)) (steps-noted l ok a am w b long f (c .steps))) in
+      record {
+        paint = repainted-then (low-repainted l ok a r (length-set w PHASE 1) (λ q g h. stored-word PHASE 1 w q (λ e. omega (arith, e, g)))) (t .paint);
+        bytes = t .bytes;
+        white = t .white ∙ ap (λ (n : ℕ). otherWhite n) (stored-word PHASE 1 w WHITE (omega arith));
+        phase = t .phase;
+        cursor = t .cursor;
+        whole = c .whole;
+        exact = c .exact;
       }
 
-  module _ (wide : l .bytes ≤ length b) (pause : at w PHASE ≡ 0) (v : Arenas l w) where
-    c : Collected l w b
-    c = collected l ok a am y w b long pause f none
+  d : SweepDone l h₁ (ready-arenas l ok a r w b long f v h₁ x)
+  d = sweep-done l ok a r h₁ (ready-arenas l ok a r w b long f v h₁ x) (ready-long l ok a r w b long f v h₁ x) (ready-low l ok a r w b long f v h₁ x) (ready-high l ok a r w b long f v h₁ x) (x .phase) (x .cursor)
 
-    -- the steps up to and with the atomic one
-    abbrev marking : ℕ
-    marking = c .steps + 2
+  abbrev h₂ : Heap
+  h₂ = singles l (d .steps) h₁
 
-    abbrev h₁ : Heap
-    h₁ = singles l (c .steps + 2) (heap w b)
+  pub freed-exactly : Collection l w b v
+  freed-exactly = record {
+    marking = marking;
+    steps = marking + d .steps;
+    few = omega (arith, c .few, d .few);
+    finalize = ap (λ (h : Heap). at (h .words) PHASE) all ∙ d .finalize;
+    first = λ i h. first i h (decLt i marking);
+    white = ap (λ (h : Heap). at (h .words) WHITE) all ∙ d .white ∙ x .white;
+    whole = ap (λ (h : Heap). at (h .words) damage) all ∙ d .kept damage (omega arith) ∙ c .whole;
+    arenas = λ k g. subst (λ (h : Heap). Freed l w b k (v k g .free) h₁ h) (sym all) (arena-freed l ok a r w b long f v h₁ x wide h₂ (d .white) (d .arenas) k g);
+  }
+    where
+      all : singles l (marking + d .steps) (heap w b) ≡ h₂
+      all = singles-add l marking (d .steps) (heap w b)
 
-    x : Left l w (h₁ .words)
-    x = subst (λ (h : Heap). Left l w (h .words)) (sym (c .state)) (atomic-left (c .steps))
-
-    same-bytes : h₁ .bytes ≡ b
-    same-bytes = ap (λ (h : Heap). h .bytes) (c .state)
-
-    -- the old white is the white before
-    old : otherWhite (at (h₁ .words) WHITE) ≡ at w WHITE
-    old = ap (λ (n : ℕ). otherWhite n) (x .white) ∙ other-back (at w WHITE) (f .low) (f .high) .0
-
-    abbrev v₁ : Arenas l (h₁ .words)
-    v₁ k i = repainted-keeps l ok a r (x .paint) k i (v k i) .0
-
-    d : SweepDone l h₁ v₁
-    d =
-        sweep-done l ok a r h₁ v₁ (omega (arith, long, x .paint .long)) (omega (arith, x .white, other-white (at w WHITE) (f .low) (f .high) .0))
-        (omega (arith, x .white, other-back (at w WHITE) (f .low) (f .high) .1)) (x .phase) (x .cursor)
-
-    abbrev h₂ : Heap
-    h₂ = singles l (d .steps) h₁
-
-    module _ (k : ℕ) (g : k ≤ 5) where
-      s : To l k (fresh (arenaOf l k) (h₁ .words)) h₁ h₂ (v₁ k g .free)
-      s = d .arenas k g
-
-      same-fresh : fresh (arenaOf l k) (h₁ .words) ≡ fresh (arenaOf l k) w
-      same-fresh = repainted-fresh l ok a r (x .paint) k g
-
-      -- a slot freed lies below the fresh index
-      below : (i : ℕ) → List·Memᴰ i (s .gone) → (i < fresh (arenaOf l k) w) × (i < (arenaOf l k) .slots)
-      below i m = let q = s .is i .0 m in (omega (arith, q .0, same-fresh), omega (arith, q .0, same-fresh, v k g .within))
-
-      used-w : (i : ℕ) → i < fresh (arenaOf l k) w → i < used (arenaOf l k) w
-      used-w i h = omega (arith, h, v k g .within)
-
-      -- an occupied slot lies there too
-      occupied-below : (i : ℕ) → Occupied l w (slotAt l w k i) → (i < fresh (arenaOf l k) w) × (i < (arenaOf l k) .slots)
-      occupied-below i h = let p = shade-parts (arenaOf l k) i (gen (arenaOf l k) i w) w h in (omega (arith, p .0), omega (arith, p .0))
-
-      -- the colour of its handle is its colour, before the collection and after the atomic step
-      own-w : (i : ℕ) → i < fresh (arenaOf l k) w → colourW l (slotAt l w k i) w ≡ colour (arenaOf l k) i w
-      own-w i h = shade-colour (arenaOf l k) i (gen (arenaOf l k) i w) w (used-w i h) refl
-
-      own-h : (i : ℕ) → i < fresh (arenaOf l k) w → colourW l (slotAt l w k i) (h₁ .words) ≡ colour (arenaOf l k) i (h₁ .words)
-      own-h i h =
-          shade-colour (arenaOf l k) i (gen (arenaOf l k) i w) (h₁ .words) (omega (arith, h, same-fresh, v k g .within))
-          (repainted-gen l ok a r (x .paint) k g i (omega (arith, h, v k g .within)))
-
-      -- occupied is not free, before and after
-      not-free : (i : ℕ) → Occupied l w (slotAt l w k i) → colour (arenaOf l k) i (h₁ .words) ≢ 0
-      not-free i h z =
-          let q = occupied-below i h in
-          none-of (colourW l (slotAt l w k i) w) (colour (arenaOf l k) i w) h (own-w i (q .0)) (repainted-free l ok a r (x .paint) k g i (q .1) .1 z)
-        where
-          none-of : (p q : ℕ) → 1 ≤ p → p ≡ q → q ≡ 0 → ⊥
-          none-of p q f g e = omega (arith, f, g, e)
-
-      was-occupied : (i : ℕ) → i < fresh (arenaOf l k) w → i < (arenaOf l k) .slots → colour (arenaOf l k) i (h₁ .words) ≡ at w WHITE → Occupied l w (slotAt l w k i)
-      was-occupied i h t e =
-          some-of (colourW l (slotAt l w k i) w) (colour (arenaOf l k) i w) (own-w i h)
-          (λ z. white-of (colour (arenaOf l k) i (h₁ .words)) e (repainted-free l ok a r (x .paint) k g i t .0 z))
-        where
-          some-of : (p q : ℕ) → p ≡ q → q ≢ 0 → 1 ≤ p
-          some-of p q e d = omega (arith, e, d)
-
-          white-of : (p : ℕ) → p ≡ at w WHITE → p ≡ 0 → ⊥
-          white-of p e z = omega (arith, e, z, f .low)
-
-      -- What is freed is to be freed,
-      freed-is : (i : ℕ) → List·Memᴰ i (s .gone) → ToFree l w b (slotAt l w k i)
-      freed-is i m =
-          let q = below i m in
-          let e : colour (arenaOf l k) i (h₁ .words) ≡ at w WHITE = s .is i .0 m .1 ∙ old in
-          let occ = was-occupied i (q .0) (q .1) e in (
-            occ,
-            (λ z. c .exact (slotAt l w k i) occ .1 (inl z) (own-h i (q .0) ∙ e)),
-            (λ z. c .exact (slotAt l w k i) occ .1 (inr z) (own-h i (q .0) ∙ e)),
-          )
-
-      -- and what is to be freed is freed.
-      is-freed : (i : ℕ) → ToFree l w b (slotAt l w k i) → List·Memᴰ i (s .gone)
-      is-freed i t = go (ℕ-discrete (colourW l (slotAt l w k i) (h₁ .words)) (at w WHITE))
-        where
-          go : Dec (colourW l (slotAt l w k i) (h₁ .words) ≡ at w WHITE) → List·Memᴰ i (s .gone)
-          go (yes e) =
-              let q = occupied-below i (t .0) in
-              s .is i .1 (omega (arith, q .0, same-fresh), sym (own-h i (q .0)) ∙ e ∙ sym old)
-          go (no d) = absurd (⊎-elim (λ z. t .1 z) (λ z. t .2 z) (c .exact (slotAt l w k i) (t .0) .0 d))
-
-      -- One arena.
-      arena-freed : Freed l w b k (v k g .free) h₁ h₂
-      arena-freed = record {
-        gone = s .gone;
-        falls = s .falls;
-        is = λ i. (freed-is i, is-freed i);
-        keeps = s .keeps;
-        chain = s .chain ∙ ap (λ (q : List ℕ). s .gone ++ q) (repainted-keeps l ok a r (x .paint) k g (v k g) .1);
-        died = s .died;
-        aged = λ i m. s .aged i m ∙ ap (λ (n : ℕ). (n + 1) % 2 ^ 32) (repainted-gen l ok a r (x .paint) k g i (below i m .1));
-        zeroed = λ i j m h. s .zeroed i j m (subst (λ (n : ℕ). j < n) (sym (repainted-extent l ok a r (x .paint) k g i (below i m .1))) h);
-        erased = λ i j m h. s .erased (subst (λ (n : ℕ). (arenaOf l k) .slots * (arenaOf l k) .width ≤ n) (sym (ap length same-bytes)) (six-wide l ok k g (length b) wide)) i j m h;
-        lives = λ i h m.
-            let q = occupied-below i h in
-            let t : i < fresh (arenaOf l k) (h₁ .words) = omega (arith, q .0, same-fresh) in
-            s .painted i t (not-free i h) (λ e. m (s .is i .1 (t, e))) ∙ sym (d .white);
-        idle = λ i h e. s .idle i h (repainted-free l ok a r (x .paint) k g i h .0 e);
-        gens = λ i h m. s .gens i h m ∙ repainted-gen l ok a r (x .paint) k g i h;
-        extents = λ i h m. s .extents i h m ∙ repainted-extent l ok a r (x .paint) k g i h;
-        bodies = s .bodies;
-        texts = λ i j h m p. s .texts i j h m p ∙ ap (λ (q : List ℕ). at q (i * (arenaOf l k) .width + j)) same-bytes;
-      }
-
-    -- Demand 3 by single steps.
-    pub freed-exactly : Collection l w b v
-    freed-exactly = record {
-      marking = marking;
-      steps = marking + d .steps;
-      few = omega (arith, c .few, d .few);
-      finalize = ap (λ (h : Heap). at (h .words) PHASE) all ∙ d .finalize;
-      first = λ i h. first i h (decLt i marking);
-      white = ap (λ (h : Heap). at (h .words) WHITE) all ∙ d .white ∙ x .white;
-      whole = ap (λ (h : Heap). at (h .words) damage) all ∙ d .kept damage (omega arith) ∙ c .whole;
-      arenas = λ k g. subst (λ (h : Heap). Freed l w b k (v k g .free) h₁ h) (sym all) (arena-freed k g);
-    }
-      where
-        all : singles l (marking + d .steps) (heap w b) ≡ h₂
-        all = singles-add l marking (d .steps) (heap w b)
-
-        first : (i : ℕ) → i < marking + d .steps → Dec (i < marking) → at (singles l i (heap w b) .words) PHASE ≢ 4
-        first i h (yes p) e = omega (arith, e, c .before i p)
-        first i h (no p) e =
-            let q : i ≡ marking + (i - marking) = omega (arith, p) in
-            d .first (i - marking) (omega (arith, h, p))
-            (sym (ap (λ (t : Heap). at (t .words) PHASE) (ap (λ (n : ℕ). singles l n (heap w b)) q ∙ singles-add l marking (i - marking) (heap w b))) ∙ e)
+      first : (i : ℕ) → i < marking + d .steps → Dec (i < marking) → at (singles l i (heap w b) .words) PHASE ≢ 4
+      first i h (yes p) e = omega (arith, e, c .before i p)
+      first i h (no p) e =
+          let q : i ≡ marking + (i - marking) = omega (arith, p) in
+          d .first (i - marking) (omega (arith, h, p))
+          (sym (ap (λ (t : Heap). at (t .words) PHASE) (ap (λ (n : ℕ). singles l n (heap w b)) q ∙ singles-add l marking (i - marking) (heap w b))) ∙ e)
 
 -- Demand 3 by single steps, for the layout of any sizes within their ranges: from Pause, every occupied slot in the current white,
 -- the queue empty and the six arenas well-formed, single steps come to Finalize; at the first state there the slots freed are exactly
