@@ -248,7 +248,6 @@ module _ (l : Lay) (ok : Laid l) (a : Apart l) (r : Rows l) (w b : List ℕ) (lo
       texts = λ i j h m p. s .texts i j h m p ∙ ap (λ (q : List ℕ). at q (i * (arenaOf l k) .width + j)) (x .bytes);
     }
 
-
 module _ (l : Lay) (ok : Laid l) (a : Apart l) (r : Rows l) (am : Ample l) (y : Bodies l) (w b : List ℕ) (long : l .words ≤ length w) (f : AllWhite l w) (none : lengthOf (l .queue) w ≡ 0) where
   -- The second part of the atomic phase, from words u in which what the roots reach is marked.
   pub atomic-ready : (u : List ℕ) → Ok l w b (Root l w b) (First l w) None 0 0 0 [] u → Noted l w b u → Ready l w b (heap (atomic l b u) b)

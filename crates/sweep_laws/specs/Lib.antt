@@ -3,3 +3,4 @@ pub mod Places
 pub mod Turns
 pub mod Repaints
 pub mod Collections
+pub mod Mixtures

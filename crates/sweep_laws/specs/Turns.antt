@@ -419,7 +419,7 @@ module _ (l : Lay) (ok : Laid l) (a : Apart l) (r : Rows l) (h₀ : Heap) (v : A
   stage-small {j} s i = omega (arith, s .now i .within, v j i .within)
 
   -- past the last arena there is no slot
-  stage-end : {j n : ℕ} {h : Heap} → Stage l h₀ v j n h → (j < 6 → ⊥) → Stage l h₀ v 6 0 h
+  pub stage-end : {j n : ℕ} {h : Heap} → Stage l h₀ v j n h → (j < 6 → ⊥) → Stage l h₀ v 6 0 h
   stage-end {j} {n} {h} s d =
       let e : j ≡ 6 = omega (arith, s .most, d) in
       record {
