@@ -4,3 +4,4 @@ pub mod Turns
 pub mod Repaints
 pub mod Collections
 pub mod Mixtures
+pub mod Finalizes

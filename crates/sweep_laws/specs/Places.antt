@@ -119,7 +119,7 @@ module _ (l : Lay) (ok : Laid l) (a : Apart l) (r : Rows l) where
   top-is (suc (suc (suc (suc (suc (suc k)))))) i = absurd (let z : ⊥ = omega (arith, i) in z)
 
   -- all bodies lie past the boundary
-  body-past : (k : ℕ) → k ≤ 5 → l .boundary ≤ bodies k
+  pub body-past : (k : ℕ) → k ≤ 5 → l .boundary ≤ bodies k
   body-past zero i = o .past-strings
   body-past (suc zero) i = o .past-tables
   body-past (suc (suc zero)) i = o .past-functions
