@@ -68,6 +68,14 @@ pub record Marking (l : Lay) (w b u : List ℕ) : Type 0 where
   pub noted : Noted l base b u
   pub phase : at u PHASE ≡ 1
 
+-- The outcome of a collection that began at words w and bytes b, with the chains of the arenas v; the atomic step left the heap `left`.
+-- In each arena exactly what is to be freed is freed; the white has flipped, and no damage is marked.
+pub record Outcome (l : Lay) (w b : List ℕ) (v : Arenas l w) (h : Heap) : Type 0 where
+  pub left : Heap
+  pub arenas : (k : ℕ) (i : k ≤ 5) → Freed l w b k (v k i .free) left h
+  pub white : at (h .words) WHITE ≡ otherWhite (at w WHITE)
+  pub whole : at (h .words) damage ≡ at w damage
+
 -- a word of pacing
 pub pacing-counter : (p : ℕ) → 57 ≤ p → p < 69 → Counter p
 pacing-counter p f g = record { low = omega (arith, f); high = g; other = λ e. omega (arith, e, f) }
@@ -156,46 +164,66 @@ module _ (l : Lay) (ok : Laid l) (a : Apart l) (r : Rows l) (am : Ample l) (y : 
   pub data Past (h : Heap) : Type 0 where
     past : (h₀ : Heap) (x : Ready l w b h₀) → Over h₀ x h → Past h
 
+  -- the phase of a heap that is another
+  phase-of : {h : Heap} (t : Heap) (n : ℕ) → h ≡ t → at (t .words) PHASE ≡ n → n ≢ 0 → at (h .words) PHASE ≢ 0
+  phase-of {h} t n e p d z = d (sym p ∙ ap (λ (x : Heap). at (x .words) PHASE) (sym e) ∙ z)
+
+  -- the phase during the sweep
+  sweep-phase : {h₀ h : Heap} {x : Arenas l (h₀ .words)} {j n : ℕ} → Stage l h₀ x j n h → j ≤ 5 → (at (h .words) PHASE ≢ 0) × (at (h .words) PHASE ≢ 4)
+  sweep-phase {h = h} {j = j} s i = go (ℕ-discrete j 0)
+    where
+      go : Dec (j ≡ 0) → (at (h .words) PHASE ≢ 0) × (at (h .words) PHASE ≢ 4)
+      go (yes e) = let p = s .strings e .0 in ((λ z. omega (arith, z, p)), λ z. omega (arith, z, p))
+      go (no e) = let p = s .others (omega (arith, e)) i .0 in ((λ z. omega (arith, z, p)), λ z. omega (arith, z, p))
+
+  -- What a single step comes to: not Pause yet, or Finalize.
+  abbrev pub Stepped : Heap → Type 0
+  Stepped h = (Going (singleStep l h .1) × (at (singleStep l h .1 .words) PHASE ≢ 0)) ⊎ (Past (singleStep l h .1) × (at (singleStep l h .1 .words) PHASE ≡ 4))
+
   -- A single step goes on, or ends the sweep.
-  pub step-keeps : (h : Heap) → Going h → Going (singleStep l h .1) ⊎ (Past (singleStep l h .1) × (at (singleStep l h .1 .words) PHASE ≡ 4))
+  pub step-keeps : (h : Heap) → Going h → Stepped h
   unfolding advances
   step-keeps h (paused u e s p) =
       let u-long = based-long s in
-      inl (marking (startCycle l u) (ap (λ (t : Heap). singleStep l t .1) e ∙ start-step l u b p) (record {
+      let q : singleStep l h .1 ≡ heap (startCycle l u) b = ap (λ (t : Heap). singleStep l t .1) e ∙ start-step l u b p in
+      inl (marking (startCycle l u) q (record {
         base = stored PHASE 1 u;
         based = based-stored PHASE phase-counter 1 s;
         ok = started-ok l ok a am u b u-long (s .whites);
         noted = started-noted l ok a am u b u-long (s .whites);
         phase = started-phase l ok a b u u-long .1;
-      }))
+      }), phase-of (heap (startCycle l u) b) 1 q (started-phase l ok a b u u-long .1) (omega arith))
   step-keeps h (marking u e m) = go (ℕ-discrete (lengthOf (l .gray) u) 0)
     where
       base-long : l .words ≤ length (m .base)
       base-long = based-long (m .based)
 
-      go : Dec (lengthOf (l .gray) u ≡ 0) → Going (singleStep l h .1) ⊎ (Past (singleStep l h .1) × (at (singleStep l h .1 .words) PHASE ≡ 4))
+      go : Dec (lengthOf (l .gray) u ≡ 0) → Stepped h
       go (no d) =
           let c = advances-ok l ok a am (m .base) b base-long 1 u (m .ok) in
-          inl (marking (advanced l (propagateOne (ops l) l b u)) (ap (λ (t : Heap). singleStep l t .1) e ∙ gray-step l ok a b u (m .phase) d) (record {
+          let q : singleStep l h .1 ≡ heap (advanced l (propagateOne (ops l) l b u)) b = ap (λ (t : Heap). singleStep l t .1) e ∙ gray-step l ok a b u (m .phase) d in
+          let p : at (advanced l (propagateOne (ops l) l b u)) PHASE ≡ 1 =
+          c .marked .kept PHASE (counters (omega arith) (omega arith)) ∙ sym (m .ok .marked .kept PHASE (counters (omega arith) (omega arith))) ∙ m .phase in
+          inl (marking (advanced l (propagateOne (ops l) l b u)) q (record {
             base = m .base;
             based = m .based;
             ok = c;
             noted = advances-noted l ok a am (m .base) b base-long 1 u (m .ok) (m .noted);
-            phase = c .marked .kept PHASE (counters (omega arith) (omega arith)) ∙ sym (m .ok .marked .kept PHASE (counters (omega arith) (omega arith))) ∙ m .phase;
-          }))
+            phase = p;
+          }), phase-of (heap (advanced l (propagateOne (ops l) l b u)) b) 1 q p (omega arith))
       go (yes d) =
           let x : Ready l w b (heap (atomic l b u) b) = ready-based (m .based) (atomic-ready l ok a r am y (m .base) b base-long (m .based .whites) (m .based .queue) u (m .ok) (m .noted)) in
           let q : singleStep l h .1 ≡ heap (atomic l b u) b = ap (λ (t : Heap). singleStep l t .1) e ∙ atomic-step l ok a b u (m .phase) d in
           inl (sweeping (heap (atomic l b u) b) x 0 0 (omega arith)
           (subst (λ (t : Heap). Stage l (heap (atomic l b u) b) (ready-arenas l ok a r w b long f v (heap (atomic l b u) b) x) 0 0 t) (sym q)
-          (stage-first l (heap (atomic l b u) b) (ready-arenas l ok a r w b long f v (heap (atomic l b u) b) x) (x .phase) (x .cursor))))
+          (stage-first l (heap (atomic l b u) b) (ready-arenas l ok a r w b long f v (heap (atomic l b u) b) x) (x .phase) (x .cursor))), phase-of (heap (atomic l b u) b) 2 q (x .phase) (omega arith))
   step-keeps h (sweeping h₀ x j n i s) =
       go
       (stage-step l ok a r h₀ (ready-arenas l ok a r w b long f v h₀ x) (ready-long l ok a r w b long f v h₀ x) (ready-low l ok a r w b long f v h₀ x) (ready-high l ok a r w b long f v h₀ x) j n h i s)
     where
       next : (j′ n′ : ℕ) → Stage l h₀ (ready-arenas l ok a r w b long f v h₀ x) j′ n′ (singleStep l h .1) → Dec (j′ < 6)
-          → Going (singleStep l h .1) ⊎ (Past (singleStep l h .1) × (at (singleStep l h .1 .words) PHASE ≡ 4))
-      next j′ n′ t (yes d) = inl (sweeping h₀ x j′ n′ (omega (arith, d)) t)
+          → Stepped h
+      next j′ n′ t (yes d) = inl (sweeping h₀ x j′ n′ (omega (arith, d)) t, sweep-phase t (omega (arith, d)) .0)
       next j′ n′ t (no d) =
           let e : j′ ≡ 6 = omega (arith, t .most, d) in
           inr (past h₀ x (record {
@@ -207,8 +235,14 @@ module _ (l : Lay) (ok : Laid l) (a : Apart l) (r : Rows l) (am : Ample l) (y : 
           }), t .ended e)
 
       go : (j′ : ℕ) × (n′ : ℕ) × Stage l h₀ (ready-arenas l ok a r w b long f v h₀ x) j′ n′ (singleStep l h .1) × (((j′ ≡ j) × (n + 80 ≤ n′)) ⊎ ((j′ ≡ j + 1) × (n′ ≡ 0)))
-          → Going (singleStep l h .1) ⊎ (Past (singleStep l h .1) × (at (singleStep l h .1 .words) PHASE ≡ 4))
+          → Stepped h
       go (j′, n′, t, p) = next j′ n′ t (decLt j′ 6)
+
+  -- Before the sweep is over the phase is not Finalize.
+  pub going-phase : {h : Heap} → Going h → at (h .words) PHASE ≢ 4
+  going-phase (paused u e s p) z = omega (arith, sym p ∙ ap (λ (t : Heap). at (t .words) PHASE) (sym e) ∙ z)
+  going-phase (marking u e m) z = omega (arith, sym (m .phase) ∙ ap (λ (t : Heap). at (t .words) PHASE) (sym e) ∙ z)
+  going-phase (sweeping h₀ x j n i s) z = sweep-phase s i .1 z
 
   -- A word of pacing may change at any time.
   pub store-keeps : (p : ℕ) → 57 ≤ p → p < 69 → (n : ℕ) (h : Heap) → Going h → Going (heap (put p n (h .words)) (h .bytes))
@@ -262,11 +296,10 @@ module _ (l : Lay) (ok : Laid l) (a : Apart l) (r : Rows l) (am : Ample l) (y : 
       word t d = getD-set-other (h .words) p t n 0 d
 
   -- What is freed then is exactly what is to be freed.
-  pub past-freed : l .bytes ≤ length b → (h : Heap) → Past h
-      → (h₁ : Heap) × ((k : ℕ) (i : k ≤ 5) → Freed l w b k (v k i .free) h₁ h) × (at (h .words) WHITE ≡ otherWhite (at w WHITE)) × (at (h .words) damage ≡ at w damage)
-  past-freed wide h (past h₀ x s) = (
-    h₀,
-    (λ k i. arena-freed l ok a r w b long f v h₀ x wide h (s .white) (s .arenas) k i),
-    s .white ∙ x .white,
-    s .mark ∙ x .whole,
-  )
+  pub past-freed : l .bytes ≤ length b → (h : Heap) → Past h → Outcome l w b v h
+  past-freed wide h (past h₀ x s) = record {
+    left = h₀;
+    arenas = λ k i. arena-freed l ok a r w b long f v h₀ x wide h (s .white) (s .arenas) k i;
+    white = s .white ∙ x .white;
+    whole = s .mark ∙ x .whole;
+  }
