@@ -2,26 +2,25 @@
 -- whole. Between two batches words elsewhere may change. Assumes nothing.
 --     Clean            the arena after its slots below n were swept
 --     clean-none       none yet
---     clean-batch      a batch from slot n on: the slots below it are not touched again
+--     clean-cleaned    a batch from slot n on: the slots below it are not touched again
 --     Same, clean-same     words and bytes elsewhere change
 --     batches, batches-clean     any number of batches of any sizes
 use mathlib.Core.Path.{_≡_, refl, sym, subst, ap, _∙_}
-use mathlib.Core.Logic.{_⊎_, inl, inr, ⊎-elim, _≢_, _↔_}
-use mathlib.Core.List.{List, [], _∷_, _++_, append-assoc, List·Memᴰ, List·Memᴰ·head, List·Memᴰ·tail, List·Memᴰ·not-nil, List·Memᴰ·cases-cons, List·Memᴰ·append-cases, Memᴰ·append-left, Memᴰ·append-right}
-use Prim.Native.Nat.{ℕ, zero, suc, _+_, _*_, _%_, _^_, _≤_, _<_}
+use mathlib.Core.Logic.{inl, inr, ⊎-elim, _≢_, _↔_}
+use mathlib.Core.List.{List, [], _∷_, _++_, append-assoc, List·Memᴰ, List·Memᴰ·head, List·Memᴰ·tail, List·Memᴰ·not-nil, List·Memᴰ·append-cases, Memᴰ·append-left, Memᴰ·append-right}
+use Prim.Native.Nat.{ℕ, _+_, _*_, _%_, _^_, _≤_, _<_}
 use native.Mathlib.Omega.{arith}
 use lib.ListN.{length}
 use Rattle.base.specs.Words.{at, bounded}
-use Rattle.base.specs.Heap.{Heap, heap}
+use Rattle.base.specs.Heap.{Heap}
 use Rattle.arena.specs.Slots.{Room, Wide, row, colour, extent, gen, fresh, sweepPartial}
 use Rattle.arena.specs.declared.Arena.{Arena}
-use Rattle.arena.specs.declared.Swept.{Swept}
 use Rattle.arena_laws.specs.Words.{le-or-lt}
 use Rattle.arena_laws.specs.Chain.{Falling, WellFormed}
 use Rattle.arena_laws.specs.Changes.{room-after}
 use Rattle.arena_laws.specs.Frees.{extent-within}
 use Rattle.arena_laws.specs.Frames.{Untouched, kept-fresh, kept-colour, kept-gen, frame-keeps}
-use Rattle.arena_laws.specs.Sweeps.{Cleaned, Sweeps, sweep-does}
+use Rattle.arena_laws.specs.Sweeps.{Cleaned, sweep-does}
 
 -- The heap h became h′, the slots below n were swept. The chain held the slots `before`.
 pub record Clean (a : Arena) (dead white n : ℕ) (h h′ : Heap) (before : List ℕ) : Type 0 where
@@ -86,7 +85,7 @@ falling-append (x ∷ xs) ys f g h = (
 )
 
 -- A batch from slot n on.
-module _ {a : Arena} {dead white n : ℕ} {h h₁ : Heap} {before : List ℕ} (v : WellFormed a (h .words)) (d₁ : 0 < dead) (c : Clean a dead white n h h₁ before)
+module _ {a : Arena} {dead white n : ℕ} {h h₁ : Heap} {before : List ℕ} (v : WellFormed a (h .words)) (c : Clean a dead white n h h₁ before)
     {m f seen : ℕ} {h₂ : Heap} (o : Cleaned a dead white n m f seen h₁ h₂ (c .keeps .free)) where
   new-in : (i : ℕ) → List·Memᴰ i (o .gone) → (n ≤ i) × (i < m) × (i < a .slots)
   new-in i p = let q = o .is i .0 p in (q .0, q .1, omega (arith, q .2, c .end, v .within))
@@ -219,7 +218,7 @@ module _ (a : Arena) (dead white : ℕ) (h : Heap) (r : Room a (h .words)) (v : 
   batches-on [] p c = c
   batches-on (most ∷ ms) p c =
       let s = sweep-does a dead white (p .0) most (p .1) (room-after (c .long) r) (c .keeps) d₁ c₁ c₄ in
-      batches-on ms _ (clean-cleaned v d₁ c (s .cleaned))
+      batches-on ms _ (clean-cleaned v c (s .cleaned))
 
   pub batches-clean : (ms : List ℕ) → Clean a dead white (batches a dead white ms (0, h) .0) h (batches a dead white ms (0, h) .1) (v .free)
   batches-clean ms = batches-on ms (0, h) (clean-none a dead white h v)

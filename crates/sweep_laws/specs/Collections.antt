@@ -25,10 +25,10 @@ use Rattle.laid.specs.Laid.{Laid}
 use Rattle.mark.specs.Ops.{Ref, ref, otherWhite}
 use Rattle.mark.specs.Words.{arenaOf, colourW}
 use Rattle.propagate.specs.Propagation.{rounds}
-use Rattle.atomic.specs.Atomic.{marked, finished, flipped, begun, atomic}
+use Rattle.atomic.specs.Atomic.{marked, finished, atomic}
 use Rattle.sweep_step.specs.Rooms.{swept-wide, strings-wide}
 use Rattle.step.specs.Step.{startCycle, singleStep}
-use Rattle.mark_laws.specs.Apart.{Apart, apart, laid-of, Order, order}
+use Rattle.mark_laws.specs.Apart.{Apart, apart, laid-of}
 use Rattle.mark_laws.specs.Colours.{shade-parts}
 use Rattle.mark_laws.specs.Changes.{tops}
 use Rattle.room_laws.specs.Tallies.{Ample, ample}
@@ -48,7 +48,6 @@ use Rattle.atomic_laws.specs.Survives.{other-white, flipped-exact}
 use Rattle.cycle_laws.specs.Counters.{stored, phase-counter, stored-word, stored-white}
 use Rattle.cycle_laws.specs.Singles.{singles}
 use Rattle.cycle_laws.specs.Collects.{steps-ok, steps-noted, none-v, Collected, collected}
-use Rattle.sweep_laws.specs.Batches.{Clean}
 use Rattle.sweep_laws.specs.Places.{Rows, rows, arena-at}
 use Rattle.sweep_laws.specs.Turns.{Arenas, To, slotsOf, SweepDone, sweep-done}
 use Rattle.sweep_laws.specs.Repaints.{Repainted, repainted-then, repainted-fresh, repainted-gen, repainted-extent, repainted-free, repainted-keeps, low-repainted, atomic-repainted}

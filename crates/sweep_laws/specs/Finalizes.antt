@@ -10,20 +10,18 @@ use Prim.Native.Nat.{ℕ, _+_, _*_, _/_, _%_, _≤_, _<_}
 use native.Mathlib.Omega.{arith}
 use lib.ListN.{length}
 use Rattle.base.specs.Ways.{eq-no}
-use Rattle.base.specs.Words.{at, put}
+use Rattle.base.specs.Words.{at}
 use Rattle.base.specs.Heap.{Heap, heap}
-use Rattle.arena_laws.specs.Words.{puts, puts-length, puts-far, puts-at}
+use Rattle.arena_laws.specs.Words.{puts-length, puts-far, puts-at}
 use Rattle.value.specs.Values.{isNil}
 use Rattle.layout.specs.declared.Lay.{Lay}
 use Rattle.layout.specs.Places.{PHASE, WHITE, TOTAL, ESTIMATE, THRESHOLD, DEBT}
-use Rattle.lists.specs.declared.Item.{Item}
 use Rattle.lists.specs.declared.Item.the-variants.{Table, Function, Userdata, Thread, Main, Unknown}
 use Rattle.lists.specs.declared.Popped.{Popped}
 use Rattle.lists.specs.declared.Popped.the-variants.{Nothing, Got}
 use Rattle.lists.specs.Lists.{damage, lengthOf, pop}
 use Rattle.lists.specs.Laws.{pop-long, pop-kept}
 use Rattle.laid.specs.Laid.{Laid, queue-room}
-use Rattle.mark.specs.Words.{arenaOf}
 use Rattle.pacing.specs.Pacing.{lowered}
 use Rattle.sweep_step.specs.Sweeping.{sweepStrings, sweepOthers}
 use Rattle.step.specs.declared.Single.{Single}
@@ -34,7 +32,6 @@ use Rattle.room_laws.specs.Tallies.{Ample}
 use Rattle.room_laws.specs.Queues.{queue-count}
 use Rattle.reach.specs.Cycle.{AllWhite}
 use Rattle.atomic_laws.specs.Bodies.{Bodies}
-use Rattle.sweep_laws.specs.Batches.{Same}
 use Rattle.sweep_laws.specs.Places.{Rows, top-is, body-past}
 use Rattle.sweep_laws.specs.Turns.{Arenas}
 use Rattle.sweep_laws.specs.Collections.{ready-long}

@@ -6,14 +6,13 @@
 --     past-step         a single step in Finalize leaves the arenas
 --     past-freed        what is freed then is exactly what is to be freed
 use mathlib.Core.Path.{_≡_, refl, sym, subst, ap, _∙_}
-use mathlib.Core.Bool.{Bool, true, false, cond}
 use mathlib.Core.Logic.{_⊎_, inl, inr, ⊎-elim, _≢_, _↔_}
 use mathlib.Core.List.{List, [], List·Memᴰ}
-use Prim.Native.Nat.{ℕ, zero, suc, min, _+_, _*_, _≤_, _<_}
+use Prim.Native.Nat.{ℕ, min, _+_, _≤_, _<_}
 use native.Mathlib.Decide.{ℕ-discrete, decLt}
 use native.Mathlib.Omega.{arith}
 use lib.ListN.{length, length-set}
-use lib.Seq.{getD-set-same, getD-set-other}
+use lib.Seq.{getD-set-other}
 use Rattle.base.specs.Words.{at, put}
 use Rattle.base.specs.Heap.{Heap, heap}
 use Rattle.arena.specs.Slots.{fresh}
@@ -30,7 +29,6 @@ use Rattle.mark_laws.specs.Apart.{Apart, Order, order}
 use Rattle.mark_laws.specs.Changes.{counters}
 use Rattle.link_laws.specs.Roots.{root-links-same}
 use Rattle.room_laws.specs.Tallies.{Ample}
-use Rattle.room_laws.specs.Payments.{whole-long}
 use Rattle.room_laws.specs.Queues.{queue-count}
 use Rattle.reach.specs.Reached.{Root}
 use Rattle.reach.specs.Cycle.{AllWhite, advanced, advances}
@@ -38,7 +36,7 @@ use Rattle.reach.specs.Oks.{Ok}
 use Rattle.reach.specs.Exact.{None, First, advances-ok}
 use Rattle.atomic_laws.specs.Kept.{Kept, Spared}
 use Rattle.atomic_laws.specs.Bodies.{Bodies}
-use Rattle.atomic_laws.specs.Alikes.{Alike, alike-back, root-alike, kept-alike, spared-alike}
+use Rattle.atomic_laws.specs.Alikes.{alike-back, root-alike, kept-alike, spared-alike}
 use Rattle.atomic_laws.specs.Notes.{Noted}
 use Rattle.atomic_laws.specs.Notings.{advances-noted}
 use Rattle.cycle_laws.specs.Counters.{stored, Counter, phase-counter, stored-word, stored-shade, stored-alike, stored-ok, stored-noted, stored-white}
@@ -46,7 +44,7 @@ use Rattle.cycle_laws.specs.Singles.{start-step, gray-step, atomic-step, starte
 use Rattle.cycle_laws.specs.Collects.{frame-one, started-ok, started-noted}
 use Rattle.sweep_laws.specs.Batches.{Same, clean-same}
 use Rattle.sweep_laws.specs.Places.{Rows, low-same}
-use Rattle.sweep_laws.specs.Turns.{Arenas, To, Stage, stage-first, stage-step, stage-end}
+use Rattle.sweep_laws.specs.Turns.{Arenas, To, Stage, stage-first, stage-step}
 use Rattle.sweep_laws.specs.Repaints.{Repainted, repainted-then, low-repainted}
 use Rattle.sweep_laws.specs.Collections.{Freed, Ready, ready-arenas, ready-long, ready-low, ready-high, arena-freed, atomic-ready}
 
@@ -186,13 +184,16 @@ module _ (l : Lay) (ok : Laid l) (a : Apart l) (r : Rows l) (am : Ample l) (y : 
   step-keeps h (paused u e s p) =
       let u-long = based-long s in
       let q : singleStep l h .1 ≡ heap (startCycle l u) b = ap (λ (t : Heap). singleStep l t .1) e ∙ start-step l u b p in
-      inl (marking (startCycle l u) q (record {
-        base = stored PHASE 1 u;
-        based = based-stored PHASE phase-counter 1 s;
-        ok = started-ok l ok a am u b u-long (s .whites);
-        noted = started-noted l ok a am u b u-long (s .whites);
-        phase = started-phase l ok a b u u-long .1;
-      }), phase-of (heap (startCycle l u) b) 1 q (started-phase l ok a b u u-long .1) (omega arith))
+      inl (
+        marking (startCycle l u) q (record {
+          base = stored PHASE 1 u;
+          based = based-stored PHASE phase-counter 1 s;
+          ok = started-ok l ok a am u b u-long (s .whites);
+          noted = started-noted l ok a am u b u-long (s .whites);
+          phase = started-phase l ok a b u u-long .1;
+        }),
+        phase-of (heap (startCycle l u) b) 1 q (started-phase l ok a b u u-long .1) (omega arith),
+      )
   step-keeps h (marking u e m) = go (ℕ-discrete (lengthOf (l .gray) u) 0)
     where
       base-long : l .words ≤ length (m .base)
@@ -204,19 +205,25 @@ module _ (l : Lay) (ok : Laid l) (a : Apart l) (r : Rows l) (am : Ample l) (y : 
           let q : singleStep l h .1 ≡ heap (advanced l (propagateOne (ops l) l b u)) b = ap (λ (t : Heap). singleStep l t .1) e ∙ gray-step l ok a b u (m .phase) d in
           let p : at (advanced l (propagateOne (ops l) l b u)) PHASE ≡ 1 =
           c .marked .kept PHASE (counters (omega arith) (omega arith)) ∙ sym (m .ok .marked .kept PHASE (counters (omega arith) (omega arith))) ∙ m .phase in
-          inl (marking (advanced l (propagateOne (ops l) l b u)) q (record {
-            base = m .base;
-            based = m .based;
-            ok = c;
-            noted = advances-noted l ok a am (m .base) b base-long 1 u (m .ok) (m .noted);
-            phase = p;
-          }), phase-of (heap (advanced l (propagateOne (ops l) l b u)) b) 1 q p (omega arith))
+          inl (
+            marking (advanced l (propagateOne (ops l) l b u)) q (record {
+              base = m .base;
+              based = m .based;
+              ok = c;
+              noted = advances-noted l ok a am (m .base) b base-long 1 u (m .ok) (m .noted);
+              phase = p;
+            }),
+            phase-of (heap (advanced l (propagateOne (ops l) l b u)) b) 1 q p (omega arith),
+          )
       go (yes d) =
           let x : Ready l w b (heap (atomic l b u) b) = ready-based (m .based) (atomic-ready l ok a r am y (m .base) b base-long (m .based .whites) (m .based .queue) u (m .ok) (m .noted)) in
           let q : singleStep l h .1 ≡ heap (atomic l b u) b = ap (λ (t : Heap). singleStep l t .1) e ∙ atomic-step l ok a b u (m .phase) d in
-          inl (sweeping (heap (atomic l b u) b) x 0 0 (omega arith)
-          (subst (λ (t : Heap). Stage l (heap (atomic l b u) b) (ready-arenas l ok a r w b long f v (heap (atomic l b u) b) x) 0 0 t) (sym q)
-          (stage-first l (heap (atomic l b u) b) (ready-arenas l ok a r w b long f v (heap (atomic l b u) b) x) (x .phase) (x .cursor))), phase-of (heap (atomic l b u) b) 2 q (x .phase) (omega arith))
+          inl (
+            sweeping (heap (atomic l b u) b) x 0 0 (omega arith)
+                (subst (λ (t : Heap). Stage l (heap (atomic l b u) b) (ready-arenas l ok a r w b long f v (heap (atomic l b u) b) x) 0 0 t) (sym q)
+                (stage-first l (heap (atomic l b u) b) (ready-arenas l ok a r w b long f v (heap (atomic l b u) b) x) (x .phase) (x .cursor))),
+            phase-of (heap (atomic l b u) b) 2 q (x .phase) (omega arith),
+          )
   step-keeps h (sweeping h₀ x j n i s) =
       go
       (stage-step l ok a r h₀ (ready-arenas l ok a r w b long f v h₀ x) (ready-long l ok a r w b long f v h₀ x) (ready-low l ok a r w b long f v h₀ x) (ready-high l ok a r w b long f v h₀ x) j n h i s)
@@ -226,13 +233,16 @@ module _ (l : Lay) (ok : Laid l) (a : Apart l) (r : Rows l) (am : Ample l) (y : 
       next j′ n′ t (yes d) = inl (sweeping h₀ x j′ n′ (omega (arith, d)) t, sweep-phase t (omega (arith, d)) .0)
       next j′ n′ t (no d) =
           let e : j′ ≡ 6 = omega (arith, t .most, d) in
-          inr (past h₀ x (record {
-            size = t .long;
-            white = t .white;
-            mark = t .first damage (omega arith);
-            phase = inl (t .ended e);
-            arenas = λ k i. t .done k i (omega (arith, i, e));
-          }), t .ended e)
+          inr (
+            past h₀ x (record {
+              size = t .long;
+              white = t .white;
+              mark = t .first damage (omega arith);
+              phase = inl (t .ended e);
+              arenas = λ k i. t .done k i (omega (arith, i, e));
+            }),
+            t .ended e,
+          )
 
       go : (j′ : ℕ) × (n′ : ℕ) × Stage l h₀ (ready-arenas l ok a r w b long f v h₀ x) j′ n′ (singleStep l h .1) × (((j′ ≡ j) × (n + 80 ≤ n′)) ⊎ ((j′ ≡ j + 1) × (n′ ≡ 0)))
           → Stepped h

@@ -3,7 +3,7 @@
 --     six-room              each arena has room in the words
 --     arena-at              the arena at the cursor
 --     low-same, swept-same  words below 73 change; another arena is swept
-use mathlib.Core.Path.{_≡_, refl, sym, ap, subst, _∙_}
+use mathlib.Core.Path.{_≡_, refl, ap, subst, _∙_}
 use mathlib.Core.List.{List}
 use mathlib.Core.Logic.{_⊎_, inl, inr, ⊎-elim, _≢_}
 use Prim.Native.Nat.{ℕ, zero, suc, _+_, _*_, _≤_, _<_}
@@ -11,12 +11,12 @@ use native.Mathlib.Decide.{decLt}
 use native.Mathlib.Omega.{arith}
 use lib.ListN.{length}
 use Rattle.base.specs.Ways.{ifEq, eq-either}
-use Rattle.base.specs.Loop.{run-over, scan, scan-over, scan-keeps}
+use Rattle.base.specs.Loop.{run-over, scan-over, scan-keeps}
 use Rattle.base.specs.Words.{at, clear, clearOne}
 use Rattle.base.specs.Heap.{Heap, heap}
 use Rattle.arena.specs.declared.Arena.{Arena}
 use Rattle.arena.specs.declared.Sweep.{Sweep}
-use Rattle.arena.specs.Slots.{Room, used, setColour, emptied, freeSlot, visit, visits, toSee, sweepPartial}
+use Rattle.arena.specs.Slots.{Room, used, emptied, freeSlot, visit, visits, toSee, sweepPartial}
 use Rattle.arena_laws.specs.Words.{le-or-lt}
 use Rattle.arena_laws.specs.Changes.{Outside}
 use Rattle.arena_laws.specs.Sweeps.{Cleaned}

@@ -6,19 +6,18 @@
 --     atomic-repainted                    the atomic phase, and where it leaves phase, white and cursor
 use mathlib.Core.Path.{_≡_, refl, sym, subst, ap, _∙_}
 use mathlib.Core.Bool.{Bool, true, false}
-use mathlib.Core.Logic.{_⊎_, inl, inr, ⊎-elim, _≢_, _↔_}
+use mathlib.Core.Logic.{_⊎_, inl, inr, _≢_, _↔_}
 use mathlib.Core.List.{List, [], _∷_}
-use Prim.Native.Nat.{ℕ, zero, suc, min, _+_, _-_, _*_, _≤_, _<_}
+use Prim.Native.Nat.{ℕ, min, _+_, _-_, _*_, _≤_, _<_}
 use native.Mathlib.Decide.{ℕ-discrete, decLt}
 use native.Mathlib.Omega.{arith}
 use lib.ListN.{length, length-set}
 use lib.Seq.{getD-set-same, getD-set-other}
 use Rattle.base.specs.Ways.{ifEq, eq-yes, eq-no, le-no}
 use Rattle.base.specs.Words.{at, put, bounded}
-use Rattle.arena.specs.declared.Arena.{Arena}
-use Rattle.arena.specs.Slots.{known, colour, gen, extent, link, head, fresh, used, occupied}
-use Rattle.arena_laws.specs.Words.{puts, puts-length, puts-far, puts-at, le-is}
-use Rattle.arena_laws.specs.Counts.{one, one-free, one-occupied, tally, tally-same, colours, occupied-is}
+use Rattle.arena.specs.Slots.{known, colour, gen, extent, head, fresh, used, occupied}
+use Rattle.arena_laws.specs.Words.{puts-length, puts-far, puts-at, le-is}
+use Rattle.arena_laws.specs.Counts.{one, one-occupied, tally, tally-same, colours, occupied-is}
 use Rattle.arena_laws.specs.Chain.{Chain, WellFormed}
 use Rattle.arena_laws.specs.Keeps.{chain-frame}
 use Rattle.layout.specs.declared.Lay.{Lay}
@@ -26,7 +25,7 @@ use Rattle.layout.specs.Places.{PHASE, WHITE, CURSOR-ARENA, CURSOR-SLOT, TOTAL,
 use Rattle.lists.specs.Lists.{lengthOf, cleared}
 use Rattle.laid.specs.Laid.{Laid}
 use Rattle.mark.specs.Ops.{Ref, weak, otherWhite}
-use Rattle.mark.specs.Words.{arenaOf, listOf, colourW, paintW}
+use Rattle.mark.specs.Words.{arenaOf, colourW, paintW}
 use Rattle.separate.specs.Separation.{isDue, separated}
 use Rattle.clearing.specs.Strings.{keepAll}
 use Rattle.clearing.specs.Entries.{clearAll, clearWeakTables}
@@ -36,8 +35,6 @@ use Rattle.mark_laws.specs.Colours.{shade-parts, shade-most}
 use Rattle.mark_laws.specs.Moves.{still, emptied}
 use Rattle.mark_laws.specs.Changes.{counters, tops, slot, Up, Marked, moves-marked, colour-in}
 use Rattle.room_laws.specs.Tallies.{Ample}
-use Rattle.room_laws.specs.Payments.{whole-long}
-use Rattle.room_laws.specs.Paints.{colours-apart}
 use Rattle.room_laws.specs.Queues.{queue-count}
 use Rattle.room_laws.specs.Flips.{Low, low-none, cleared-low}
 use Rattle.reach.specs.Reached.{Root}
@@ -52,7 +49,6 @@ use Rattle.atomic_laws.specs.Finishes.{finished-ok}
 use Rattle.atomic_laws.specs.Spares.{whitens, Tinted, held, keep-all}
 use Rattle.atomic_laws.specs.Survives.{other-white}
 use Rattle.sweep_laws.specs.Places.{Rows, top-is}
-use Rattle.sweep_laws.specs.Turns.{Arenas}
 
 -- A colour stays, or an occupied slot's colour becomes another one.
 abbrev pub Tint : ℕ → ℕ → Type 0

@@ -2,10 +2,10 @@
 --     Arenas, Stage        six well-formed arenas; how far the sweep has come
 --     stage-first          the state that the atomic step leaves
 --     stage-step           a single step goes on in the arena at the cursor, or to the next, or to Finalize
---     until-swept          so Finalize is reached, in a number of single steps that is linear in the slots
+--     sweep-done           so Finalize is reached, in a number of single steps that is linear in the slots
 use mathlib.Core.Path.{_≡_, refl, sym, subst, ap, _∙_}
 use mathlib.Core.Bool.{Bool, true, false, cond}
-use mathlib.Core.Logic.{_⊎_, inl, inr, ⊎-elim, _≢_}
+use mathlib.Core.Logic.{_⊎_, inl, inr, _≢_}
 use mathlib.Core.List.{List, [], _∷_}
 use Prim.Native.Nat.{ℕ, zero, suc, _+_, _-_, _*_, _≤_, _<_}
 use native.Mathlib.Decide.{ℕ-discrete, decLt}
@@ -16,8 +16,8 @@ use Rattle.base.specs.Words.{at, put}
 use Rattle.base.specs.Heap.{Heap, heap}
 use Rattle.arena.specs.declared.Arena.{Arena}
 use Rattle.arena.specs.declared.Swept.{Swept}
-use Rattle.arena.specs.Slots.{Room, fresh, sweepPartial}
-use Rattle.arena_laws.specs.Words.{puts, puts-length, puts-far, puts-at}
+use Rattle.arena.specs.Slots.{fresh, sweepPartial}
+use Rattle.arena_laws.specs.Words.{puts-length, puts-far, puts-at}
 use Rattle.arena_laws.specs.Counts.{tally-most, colours}
 use Rattle.arena_laws.specs.Chain.{WellFormed}
 use Rattle.arena_laws.specs.Changes.{room-after}
@@ -32,11 +32,11 @@ use Rattle.sweep_step.specs.Cursor.{start, advanced, nextArena, cursorAt, putCu
 use Rattle.sweep_step.specs.Sweeping.{arenaAt, sizeAt, taken, sweepArena, stringsMoved, sweepStrings, othersMoved, sweepOthers}
 use Rattle.step.specs.declared.Single.{Single}
 use Rattle.step.specs.declared.Single.the-variants.{Cost}
-use Rattle.step.specs.Step.{startCycle, propagateStep, finalizeStep, costs, inBytes, singleStep}
+use Rattle.step.specs.Step.{startCycle, propagateStep, costs, singleStep}
 use Rattle.mark_laws.specs.Apart.{Apart, Order, order}
 use Rattle.atomic_laws.specs.Survives.{other-white}
 use Rattle.cycle_laws.specs.Singles.{singles}
-use Rattle.sweep_laws.specs.Batches.{Clean, clean-none, clean-cleaned, Same, clean-same}
+use Rattle.sweep_laws.specs.Batches.{Clean, clean-none, clean-cleaned, clean-same}
 use Rattle.sweep_laws.specs.Places.{Rows, arena-at, six-room, swept-same, low-same, low-outside}
 
 -- The six arenas are well-formed.
@@ -202,7 +202,7 @@ module _ (l : Lay) (ok : Laid l) (a : Apart l) (r : Rows l) (h₀ : Heap) (v : A
       here : (g : j ≤ 5) → To l j (q .0 .next) h₀ (heap u (q .1 .bytes)) (v j g .free)
       here g =
           let c = sweep-does (arenaOf l j) old new n 80 h (room-after (s .long) (six-room l ok a r (h₀ .words) long j i)) (s .now g .keeps) (other-white new low high .0) low (omega (arith, high)) in
-          clean-same (v j g) (clean-cleaned (v j g) (other-white new low high .0) (s .now g) (c .cleaned))
+          clean-same (v j g) (clean-cleaned (v j g) (s .now g) (c .cleaned))
           (low-same l ok a r j g (q .1 .words) u (q .1 .bytes) (e .long) (e .high))
 
       all-long : length u ≡ length (h₀ .words)
@@ -419,7 +419,7 @@ module _ (l : Lay) (ok : Laid l) (a : Apart l) (r : Rows l) (h₀ : Heap) (v : A
   stage-small {j} s i = omega (arith, s .now i .within, v j i .within)
 
   -- past the last arena there is no slot
-  pub stage-end : {j n : ℕ} {h : Heap} → Stage l h₀ v j n h → (j < 6 → ⊥) → Stage l h₀ v 6 0 h
+  stage-end : {j n : ℕ} {h : Heap} → Stage l h₀ v j n h → (j < 6 → ⊥) → Stage l h₀ v 6 0 h
   stage-end {j} {n} {h} s d =
       let e : j ≡ 6 = omega (arith, s .most, d) in
       record {
