@@ -1,3 +1,3 @@
-pub mod Phases
+pub mod Counters
 pub mod Singles
 pub mod Collects

@@ -7,7 +7,7 @@ use mathlib.Core.Path.{_≡_, refl, sym, ap, _∙_}
 use mathlib.Core.Bool.{true, true≢false}
 use mathlib.Core.List.{List}
 use mathlib.Core.Logic.{_≢_}
-use Prim.Native.Nat.{ℕ, zero, suc, _+_, _≤_}
+use Prim.Native.Nat.{ℕ, zero, suc, _+_, _≤_, _<_}
 use native.Mathlib.Decide.{ℕ-discrete}
 use native.Mathlib.Omega.{arith}
 use lib.ListN.{length, length-set}
@@ -107,11 +107,24 @@ module _ (l : Lay) (ok : Laid l) (a : Apart l) (b : List ℕ) where
       go (NeedMainThread, y) m h = sums (weight l (traverseMainThread (ops l) l y .1)) (weight l y) (weight l u) (main-spends l ok a y (omega (arith, long, m .long)) .light .less) h
       go (Empty, y) m h = h
 
-  -- So from words in Propagate there is a number of steps after which nothing is gray.
-  pub until-empty : (k : ℕ) (u : List ℕ) → l .words ≤ length u → at u PHASE ≡ 1 → weight l u ≤ k
-      → (n : ℕ) × (n ≤ k) × (lengthOf (l .gray) (advances l b n u) ≡ 0) × (singles l n (heap u b) ≡ heap (advances l b n u) b) × (at (advances l b n u) PHASE ≡ 1)
+  -- So from words in Propagate there is a number of steps, at most k, after which nothing is gray; until then the phase stays.
+  abbrev pub Empties : ℕ → List ℕ → Type 0
+  Empties k u =
+      (n : ℕ) × (n ≤ k) × (lengthOf (l .gray) (advances l b n u) ≡ 0) × (singles l n (heap u b) ≡ heap (advances l b n u) b) × (at (advances l b n u) PHASE ≡ 1)
+      × ((i : ℕ) → i ≤ n → at (singles l i (heap u b) .words) PHASE ≡ 1)
+
+  -- none at all
+  at-once : (k : ℕ) (u : List ℕ) → at u PHASE ≡ 1 → lengthOf (l .gray) u ≡ 0 → Empties k u
   unfolding advances singles
-  until-empty zero u long e h = (0, omega arith, none (lengthOf (l .gray) u) (weight l u) (omega arith) h, refl, e)
+  at-once k u e d = (0, omega arith, d, refl, e, only)
+    where
+      only : (i : ℕ) → i ≤ 0 → at (singles l i (heap u b) .words) PHASE ≡ 1
+      only zero h = e
+      only (suc i) h = absurd (let z : ⊥ = omega (arith, h) in z)
+
+  pub until-empty : (k : ℕ) (u : List ℕ) → l .words ≤ length u → at u PHASE ≡ 1 → weight l u ≤ k → Empties k u
+  unfolding advances singles
+  until-empty zero u long e h = at-once 0 u e (none (lengthOf (l .gray) u) (weight l u) (omega arith) h)
     where
       none : (x y : ℕ) → x ≤ y → y ≤ 0 → x ≡ 0
       none x y f g = omega (arith, f, g)
@@ -127,15 +140,15 @@ module _ (l : Lay) (ok : Laid l) (a : Apart l) (b : List ℕ) where
       v : List ℕ
       v = advanced l (propagateOne (ops l) l b u)
 
-      go : Dec (lengthOf (l .gray) u ≡ 0)
-          → (lengthOf (l .gray) u ≢ 0 → (n : ℕ) × (n ≤ k) × (lengthOf (l .gray) (advances l b n (advanced l (propagateOne (ops l) l b u))) ≡ 0)
-          × (singles l n (heap (advanced l (propagateOne (ops l) l b u)) b) ≡ heap (advances l b n (advanced l (propagateOne (ops l) l b u))) b)
-          × (at (advances l b n (advanced l (propagateOne (ops l) l b u))) PHASE ≡ 1))
-          → (n : ℕ) × (n ≤ suc k) × (lengthOf (l .gray) (advances l b n u) ≡ 0) × (singles l n (heap u b) ≡ heap (advances l b n u) b) × (at (advances l b n u) PHASE ≡ 1)
-      go (yes d) rest = (0, omega arith, d, refl, e)
+      go : Dec (lengthOf (l .gray) u ≡ 0) → (lengthOf (l .gray) u ≢ 0 → Empties k (advanced l (propagateOne (ops l) l b u))) → Empties (suc k) u
+      go (yes d) rest = at-once (suc k) u e d
       go (no d) rest =
           let r = rest d in
-          (suc (r .0), omega (arith, r .1), r .2, ap (singles l (r .0)) (gray-step u e d) ∙ r .3, r .4)
+          (suc (r .0), omega (arith, r .1), r .2, ap (singles l (r .0)) (gray-step u e d) ∙ r .3, r .4, stays (r .0) (r .5))
+        where
+          stays : (n : ℕ) → ((i : ℕ) → i ≤ n → at (singles l i (heap v b) .words) PHASE ≡ 1) → (i : ℕ) → i ≤ suc n → at (singles l i (heap u b) .words) PHASE ≡ 1
+          stays n rest zero f = e
+          stays n rest (suc i) f = ap (λ (x : Heap). at (singles l i x .words) PHASE) (gray-step u e d) ∙ rest i (omega (arith, f))
 
   -- the roots are marked, and the phase is Propagate
   pub started-phase : (w : List ℕ) → l .words ≤ length w → (length (startCycle l w) ≡ length w) × (at (startCycle l w) PHASE ≡ 1)
@@ -149,9 +162,10 @@ module _ (l : Lay) (ok : Laid l) (a : Apart l) (b : List ℕ) where
       )
 
   -- From Pause: for some n, at most as many as propagation may have, the state after n + 2 single steps is the one after the atomic
-  -- step.
+  -- step; before it the phase is Pause or Propagate.
   pub until-atomic : (w : List ℕ) → l .words ≤ length w → at w PHASE ≡ 0
       → (n : ℕ) × (n ≤ rounds l) × (lengthOf (l .gray) (advances l b n (startCycle l w)) ≡ 0) × (singles l (n + 2) (heap w b) ≡ heap (atomic l b (advances l b n (startCycle l w))) b)
+      × ((i : ℕ) → i < n + 2 → at (singles l i (heap w b) .words) PHASE ≤ 1)
   unfolding singles
   until-atomic w long e =
       let p = started-phase w long in
@@ -166,4 +180,9 @@ module _ (l : Lay) (ok : Laid l) (a : Apart l) (b : List ℕ) where
             ∙ singles-last l n (heap (startCycle l w) b)
             ∙ ap (λ (h : Heap). singleStep l h .1) (r .3)
             ∙ atomic-step (advances l b n (startCycle l w)) (r .4) (r .2),
+        before n (r .5),
       )
+    where
+      before : (n : ℕ) → ((i : ℕ) → i ≤ n → at (singles l i (heap (startCycle l w) b) .words) PHASE ≡ 1) → (i : ℕ) → i < n + 2 → at (singles l i (heap w b) .words) PHASE ≤ 1
+      before n rest zero f = omega (arith, e)
+      before n rest (suc i) f = omega (arith, ap (λ (x : Heap). at (singles l i x .words) PHASE) (start-step l w b e), rest i (omega (arith, f)))
