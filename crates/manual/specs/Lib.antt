@@ -1,1 +1,3 @@
 pub mod Manual
+pub mod Instance
+pub mod Agrees

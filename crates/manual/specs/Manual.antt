@@ -16,7 +16,7 @@ pub record Heap : Type 1 where
   pub Userdata : Object → Type 0                        -- it is a full userdata
   pub Gc : Object → Type 0                              -- its metatable has a field `__gc`
   pub Finalized : Object → Type 0                       -- it was put on the list of those to finalize in an earlier cycle
-  pub created : Object → ℕ                              -- what is created later has the greater number
+  pub created : Object → ℕ                              -- of two userdata the one created later has the greater number
 
 module _ (h : Heap) where
   -- 2.10.2: a table's keys are weak if its `__mode` has the character `k`, its values if it has `v` (107 and 118).
