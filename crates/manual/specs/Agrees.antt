@@ -35,6 +35,7 @@ use Rattle.links.specs.Links.{valueLinks, tableLink, each, nodeLinks, entryLink
 use Rattle.reach.specs.Reached.{Reach, Reach·root, Reach·step, Occupied, Link, Root, Reached}
 use Rattle.atomic_laws.specs.Spares.{each-out, each-in}
 use Rattle.manual.specs.Manual.{Heap, WeakKeys, WeakValues, Strong, Strong·other, Strong·key, Strong·value, From, From·start, From·step, Accessible}
+use Rattle.manual.specs.Records.{links-out, links-in, entries-in, rooted-out, rooted-in}
 use Rattle.manual.specs.Instance.{Object, Rooted, Refers, EntryOf, EntryOf·array, EntryOf·node, keyLinks, valuesLinks, ModeIs, inTables, heap}
 
 -- The byte search finds a byte exactly if it is one of them.
@@ -190,3 +191,34 @@ module _ (l : Lay) (w b : List ℕ) where
     value-in : (e : EntryOf l w b r) → List·Memᴰ q (valuesLinks l w b r e) → m .values ≡ false → List·Memᴰ q (entryLinks w m p)
     value-in (EntryOf·array c i f n) h g = array-in i f g h
     value-in (EntryOf·node c j f x y) h g = node-in j f x y (Memᴰ·append-right (cond (m .keys) [] (valueLinks (nodeKey p j w))) (unless-in (m .values) _ g h))
+
+  -- Strong references are the followed links.
+  pub strong-out : (x y : Object l w b) → Link l w b (x .0) (y .0) → Strong (heap l w b) x y
+  strong-out x y m = ⊎-elim (λ i. Strong·other i) (λ (k, i). by-entry k (entry-out (x .0) k (modeAt (x .0)) (y .0) i)) (links-out l w b (x .0) (y .0) m)
+    where
+      by-entry : (k : x .0 .kind ≡ 1) → Given-by (x .0) k (modeAt (x .0)) (y .0) → Strong (heap l w b) x y
+      by-entry k (inl (e, i, n)) = Strong·key e i (λ z. true≢false (sym (weak-keys x k .0 z) ∙ n))
+      by-entry k (inr (e, i, n)) = Strong·value e i (λ z. true≢false (sym (weak-values x k .0 z) ∙ n))
+
+  table-of : (r : Ref) → EntryOf l w b r → r .kind ≡ 1
+  table-of r (EntryOf·array k i f n) = k
+  table-of r (EntryOf·node k j f m n) = k
+
+  pub strong-in : (x y : Object l w b) → Strong (heap l w b) x y → Link l w b (x .0) (y .0)
+  strong-in x y (Strong·other i) = links-in l w b (x .0) (y .0) i
+  strong-in x y (Strong·key e i n) =
+      let k = table-of (x .0) e in
+      entries-in l w b (x .0) (y .0) (k, key-in (x .0) k (modeAt (x .0)) (y .0) e i (not-true (modeAt (x .0) .keys) (λ z. n (weak-keys x k .1 z))))
+  strong-in x y (Strong·value e i n) =
+      let k = table-of (x .0) e in
+      entries-in l w b (x .0) (y .0) (k, value-in (x .0) k (modeAt (x .0)) (y .0) e i (not-true (modeAt (x .0) .values) (λ z. n (weak-values x k .1 z))))
+
+  -- What the roots reach is accessible,
+  pub reached-accessible : (r : Ref) → Reached l w b r → (o : Occupied l w r) × Accessible (heap l w b) (r, o)
+  reached-accessible r (Reach·root m o) = (o, From·start (rooted-out l w b _ m))
+  reached-accessible r (Reach·step {i = s} h m o) = let a = reached-accessible s h in (o, From·step (a .1) (strong-out (s, a .0) (_, o) m))
+
+  -- and what is accessible the roots reach.
+  pub accessible-reached : (x : Object l w b) → Accessible (heap l w b) x → Reached l w b (x .0)
+  accessible-reached x (From·start i) = Reach·root (rooted-in l w b _ i) (x .1)
+  accessible-reached x (From·step {x = y} h s) = Reach·step (accessible-reached y h) (strong-in y x s) (x .1)

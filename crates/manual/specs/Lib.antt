@@ -1,3 +1,4 @@
 pub mod Manual
 pub mod Instance
+pub mod Records
 pub mod Agrees
