@@ -2,8 +2,8 @@
 --     mode-is, mode-of                 the mode of a table and the bytes of its `__mode`
 --     weak-keys, weak-values           the manual's weak tables are those of document 01
 --     strong-out, strong-in            strong references are the followed links
---     rooted-out, rooted-in            what a program has at hand are the roots
 --     accessible-exact                 accessible is reached
+--     finalize-exact, retained-exact   what is put on the list of those to finalize is due; what is not collected is kept
 use mathlib.Core.Path.{_≡_, refl, sym, ap, subst, _∙_}
 use mathlib.Core.Bool.{Bool, true, false, cond, true≢false}
 use mathlib.Core.List.{List, [], _∷_, _++_, List·Memᴰ, List·Memᴰ·head, List·Memᴰ·tail, List·Memᴰ·not-nil, List·Memᴰ·cases-cons, List·Memᴰ·eq-of-singleton, List·Memᴰ·append-cases, Memᴰ·append-left, Memᴰ·append-right}
@@ -27,16 +27,19 @@ use Rattle.layout.specs.declared.Lay.{Lay}
 use Rattle.record.specs.Fields.{bodyAt}
 use Rattle.record.specs.Strings.{stringLength, textOf, hasByte}
 use Rattle.record.specs.Tables.{tableMeta, arraySize, nodeCount, arrayValue, nodeKey, nodeValue}
+use Rattle.record.specs.Userdata.{udFinalized}
 use Rattle.main_record.specs.Main.{modeName}
 use Rattle.mark.specs.Ops.{Ref, ref}
 use Rattle.modes.specs.declared.Mode.{Mode}
 use Rattle.modes.specs.Modes.{field, strong, modeOfText, modeOfSlot, modeOfString, modeOfValue, weakMode}
 use Rattle.links.specs.Links.{valueLinks, tableLink, each, nodeLinks, entryLinks, tableLinks, links, roots}
 use Rattle.reach.specs.Reached.{Reach, Reach·root, Reach·step, Occupied, Link, Root, Reached}
+use Rattle.reach.specs.Tri.{reach-occ}
+use Rattle.atomic_laws.specs.Kept.{Due, KeptRoot, Kept}
 use Rattle.atomic_laws.specs.Spares.{each-out, each-in}
-use Rattle.manual.specs.Manual.{Heap, WeakKeys, WeakValues, Strong, Strong·other, Strong·key, Strong·value, From, From·start, From·step, Accessible}
+use Rattle.manual.specs.Manual.{Heap, WeakKeys, WeakValues, Strong, Strong·other, Strong·key, Strong·value, From, From·start, From·step, Accessible, ToFinalize, Retained}
 use Rattle.manual.specs.Records.{links-out, links-in, entries-in, rooted-out, rooted-in}
-use Rattle.manual.specs.Instance.{Object, Rooted, Refers, EntryOf, EntryOf·array, EntryOf·node, keyLinks, valuesLinks, ModeIs, inTables, heap}
+use Rattle.manual.specs.Instance.{Object, Rooted, Refers, EntryOf, EntryOf·array, EntryOf·node, keyLinks, valuesLinks, ModeIs, inTables, inUserdata, heap}
 
 -- The byte search finds a byte exactly if it is one of them.
 has-in : (s : List ℕ) (c : ℕ) → hasByte s c ≡ true → List·Memᴰ c s
@@ -213,12 +216,52 @@ module _ (l : Lay) (w b : List ℕ) where
       let k = table-of (x .0) e in
       entries-in l w b (x .0) (y .0) (k, value-in (x .0) k (modeAt (x .0)) (y .0) e i (not-true (modeAt (x .0) .values) (λ z. n (weak-values x k .1 z))))
 
-  -- What the roots reach is accessible,
-  pub reached-accessible : (r : Ref) → Reached l w b r → (o : Occupied l w r) × Accessible (heap l w b) (r, o)
-  reached-accessible r (Reach·root m o) = (o, From·start (rooted-out l w b _ m))
-  reached-accessible r (Reach·step {i = s} h m o) = let a = reached-accessible s h in (o, From·step (a .1) (strong-out (s, a .0) (_, o) m))
+  -- Chains of strong references, from whatever they start, are chains of followed links.
+  module _ (R : Object l w b → Type 0) (R′ : Ref → Type 0) where
+    reach-from : ((x : Object l w b) → R′ (x .0) → R x) → (r : Ref) → Reach (Link l w b) R′ (Occupied l w) r → (o : Occupied l w r) → From (heap l w b) R (r, o)
+    reach-from f r (Reach·root m o) z = From·start (f (r, z) m)
+    reach-from f r (Reach·step {i = s} h m o) z = From·step (reach-from f s h (reach-occ h)) (strong-out (s, reach-occ h) (r, z) m)
 
-  -- and what is accessible the roots reach.
-  pub accessible-reached : (x : Object l w b) → Accessible (heap l w b) x → Reached l w b (x .0)
-  accessible-reached x (From·start i) = Reach·root (rooted-in l w b _ i) (x .1)
-  accessible-reached x (From·step {x = y} h s) = Reach·step (accessible-reached y h) (strong-in y x s) (x .1)
+    from-reach : ((x : Object l w b) → R x → R′ (x .0)) → (x : Object l w b) → From (heap l w b) R x → Reach (Link l w b) R′ (Occupied l w) (x .0)
+    from-reach f x (From·start i) = Reach·root (f x i) (x .1)
+    from-reach f x (From·step {x = y} h s) = Reach·step (from-reach f y h) (strong-in y x s) (x .1)
+
+  -- What the manual calls accessible is what the roots reach,
+  pub accessible-exact : (x : Object l w b) → Accessible (heap l w b) x ↔ Reached l w b (x .0)
+  accessible-exact x = (
+    from-reach (λ y. Rooted l w b (y .0)) (Root l w b) (λ y i. rooted-in l w b (y .0) i) x,
+    λ h. reach-from (λ y. Rooted l w b (y .0)) (Root l w b) (λ y i. rooted-out l w b (y .0) i) (x .0) h (x .1),
+  )
+
+  -- what it puts on the list is due,
+  pub finalize-exact : (x : Object l w b) → ToFinalize (heap l w b) x ↔ Due l w b (x .0)
+  finalize-exact x = (
+    (λ t. record {
+      userdata = t .userdata;
+      occupied = x .1;
+      unfinalized = not-true (udFinalized (inUserdata l w b (x .0)) w) (λ z. t .first (t .userdata, z));
+      method = t .method .1;
+      unreached = λ h. t .dead (accessible-exact x .1 h);
+    }),
+    (λ d. record {
+      userdata = d .userdata;
+      method = (d .userdata, d .method);
+      first = λ (k, z). true≢false (sym z ∙ d .unfinalized);
+      dead = λ h. d .unreached (accessible-exact x .0 h);
+    }),
+  )
+
+  -- and what it does not collect is kept.
+  pub retained-exact : (x : Object l w b) → Retained (heap l w b) x ↔ Kept l w b (x .0)
+  retained-exact x = (from-reach R (KeptRoot l w b) to x, λ h. reach-from R (KeptRoot l w b) back (x .0) h (x .1))
+    where
+      R : Object l w b → Type 0
+      R y = Rooted l w b (y .0) ⊎ ToFinalize (heap l w b) y
+
+      to : (y : Object l w b) → R y → KeptRoot l w b (y .0)
+      to y (inl i) = inl (rooted-in l w b (y .0) i)
+      to y (inr t) = inr (finalize-exact y .0 t)
+
+      back : (y : Object l w b) → KeptRoot l w b (y .0) → R y
+      back y (inl i) = inl (rooted-out l w b (y .0) i)
+      back y (inr t) = inr (finalize-exact y .1 t)
