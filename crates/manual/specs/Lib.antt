@@ -2,3 +2,4 @@ pub mod Manual
 pub mod Instance
 pub mod Records
 pub mod Agrees
+pub mod Agreement
