@@ -1,0 +1,5 @@
+pub mod Manual
+pub mod Instance
+pub mod Records
+pub mod Agrees
+pub mod Agreement
