@@ -2,20 +2,18 @@
 -- clause each. Assumes nothing.
 use mathlib.Core.Path.{_≡_, refl, sym, ap, subst, _∙_}
 use mathlib.Core.Bool.{Bool, true, false, cond, true≢false}
-use mathlib.Core.List.{List, [], _∷_, _++_, List·Memᴰ, List·Memᴰ·not-nil, List·Memᴰ·eq-of-singleton, List·Memᴰ·append-cases, Memᴰ·append-left, Memᴰ·append-right}
+use mathlib.Core.List.{List, [], _++_, List·Memᴰ, List·Memᴰ·not-nil, List·Memᴰ·eq-of-singleton, List·Memᴰ·append-cases, Memᴰ·append-left, Memᴰ·append-right}
 use mathlib.Core.Logic.{_⊎_, inl, inr, ⊎-elim, _↔_}
 use Prim.Native.Nat.{ℕ, min, _+_, _*_, _≤_, _<_}
 use native.Mathlib.Omega.{arith}
 use Rattle.base.specs.Words.{at, bounded}
-use Rattle.value.specs.declared.TableRef.{TableRef}
-use Rattle.value.specs.declared.TableOr.{TableOr}
 use Rattle.value.specs.declared.Value.{Value}
 use Rattle.value.specs.declared.Value.the-variants.{Nil, Boolean, Light, Number, Str, Table, Function, Userdata, Thread}
 use Rattle.value.specs.Values.{isNil}
 use Rattle.layout.specs.declared.Lay.{Lay}
 use Rattle.record.specs.Tables.{tableMeta, arraySize, nodeCount, arrayValue, nodeKey, nodeValue}
 use Rattle.run_record.specs.Upvalues.{isClosed}
-use Rattle.run_record.specs.Threads.{threadTop, threadOpenCount, threadSuspendedCount, threadSize}
+use Rattle.run_record.specs.Threads.{threadTop, threadSize}
 use Rattle.main_record.specs.Main.{mainCi, mainValue, frameFunction}
 use Rattle.mark.specs.Ops.{Ref, ref, upval}
 use Rattle.modes.specs.declared.Mode.{Mode}
@@ -25,12 +23,33 @@ use Rattle.link_laws.specs.Agrees.{Agree, value-same, table-same, upval-same, b
 use Rattle.reach.specs.Reached.{Reached}
 use Rattle.atomic_laws.specs.Kept.{Due, Kept, stringIn, nodeStrings, tableStrings, Spared}
 use Rattle.atomic_laws.specs.Spares.{each-out, each-in}
-use Rattle.manual.specs.Manual.{Heap, WeakTable, Strong, Strong·other, Strong·key, Strong·value, From·start, Accessible, ToFinalize, Retained}
+use Rattle.manual.specs.Manual.{WeakTable, Strong, Strong·other, Strong·key, Strong·value, From·start, Accessible, ToFinalize, Retained}
 use Rattle.manual.specs.Instance.{
-  Object, Rooted·frame,
-  Refers, Refers·table-meta, Refers·closure-env, Refers·closure-value, Refers·closure-upvalue, Refers·closure-constant, Refers·upvalue-closed,
-  Refers·userdata-meta, Refers·userdata-env, Refers·thread-global, Refers·thread-hook, Refers·thread-stack, Refers·thread-open, Refers·thread-suspended,
-  EntryOf, EntryOf·array, EntryOf·node, keyLinks, valuesLinks, inTables, inUpvalues, inThreads, heap,
+  Object,
+  Rooted·frame,
+  Refers,
+  Refers·table-meta,
+  Refers·closure-env,
+  Refers·closure-value,
+  Refers·closure-upvalue,
+  Refers·closure-constant,
+  Refers·upvalue-closed,
+  Refers·userdata-meta,
+  Refers·userdata-env,
+  Refers·thread-global,
+  Refers·thread-hook,
+  Refers·thread-stack,
+  Refers·thread-open,
+  Refers·thread-suspended,
+  EntryOf,
+  EntryOf·array,
+  EntryOf·node,
+  keyLinks,
+  valuesLinks,
+  inTables,
+  inUpvalues,
+  inThreads,
+  heap,
 }
 use Rattle.manual.specs.Agrees.{weak-keys, weak-values, accessible-exact, finalize-exact, retained-exact}
 

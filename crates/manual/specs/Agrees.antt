@@ -6,13 +6,12 @@
 --     finalize-exact, retained-exact   what is put on the list of those to finalize is due; what is not collected is kept
 use mathlib.Core.Path.{_≡_, refl, sym, ap, subst, _∙_}
 use mathlib.Core.Bool.{Bool, true, false, cond, true≢false}
-use mathlib.Core.List.{List, [], _∷_, _++_, List·Memᴰ, List·Memᴰ·head, List·Memᴰ·tail, List·Memᴰ·not-nil, List·Memᴰ·cases-cons, List·Memᴰ·eq-of-singleton, List·Memᴰ·append-cases, Memᴰ·append-left, Memᴰ·append-right}
+use mathlib.Core.List.{List, [], _∷_, _++_, List·Memᴰ, List·Memᴰ·head, List·Memᴰ·tail, List·Memᴰ·not-nil, List·Memᴰ·cases-cons, List·Memᴰ·append-cases, Memᴰ·append-left, Memᴰ·append-right}
 use mathlib.Core.Logic.{_⊎_, inl, inr, ⊎-elim, _↔_}
-use Prim.Native.Nat.{ℕ, zero, suc, _+_, _≤_, _<_}
+use Prim.Native.Nat.{ℕ, _<_}
 use native.Mathlib.Omega.{arith}
 use lib.Dec.{eqb}
 use borrow.Author.Tests.{eqb-true, eq-eqb}
-use Rattle.base.specs.Ways.{ifLt, ifEq}
 use Rattle.arena.specs.declared.Named.{Named}
 use Rattle.arena.specs.declared.Named.the-variants.{At, Stale}
 use Rattle.arena.specs.Slots.{named}
@@ -29,17 +28,17 @@ use Rattle.record.specs.Strings.{stringLength, textOf, hasByte}
 use Rattle.record.specs.Tables.{tableMeta, arraySize, nodeCount, arrayValue, nodeKey, nodeValue}
 use Rattle.record.specs.Userdata.{udFinalized}
 use Rattle.main_record.specs.Main.{modeName}
-use Rattle.mark.specs.Ops.{Ref, ref}
+use Rattle.mark.specs.Ops.{Ref}
 use Rattle.modes.specs.declared.Mode.{Mode}
 use Rattle.modes.specs.Modes.{field, strong, modeOfText, modeOfSlot, modeOfString, modeOfValue, weakMode}
-use Rattle.links.specs.Links.{valueLinks, tableLink, each, nodeLinks, entryLinks, tableLinks, links, roots}
+use Rattle.links.specs.Links.{valueLinks, each, nodeLinks, entryLinks}
 use Rattle.reach.specs.Reached.{Reach, Reach·root, Reach·step, Occupied, Link, Root, Reached}
 use Rattle.reach.specs.Tri.{reach-occ}
 use Rattle.atomic_laws.specs.Kept.{Due, KeptRoot, Kept}
 use Rattle.atomic_laws.specs.Spares.{each-out, each-in}
-use Rattle.manual.specs.Manual.{Heap, WeakKeys, WeakValues, Strong, Strong·other, Strong·key, Strong·value, From, From·start, From·step, Accessible, ToFinalize, Retained}
+use Rattle.manual.specs.Manual.{WeakKeys, WeakValues, Strong, Strong·other, Strong·key, Strong·value, From, From·start, From·step, Accessible, ToFinalize, Retained}
 use Rattle.manual.specs.Records.{links-out, links-in, entries-in, rooted-out, rooted-in}
-use Rattle.manual.specs.Instance.{Object, Rooted, Refers, EntryOf, EntryOf·array, EntryOf·node, keyLinks, valuesLinks, ModeIs, inTables, inUserdata, heap}
+use Rattle.manual.specs.Instance.{Object, Rooted, EntryOf, EntryOf·array, EntryOf·node, keyLinks, valuesLinks, ModeIs, inTables, inUserdata, heap}
 
 -- The byte search finds a byte exactly if it is one of them.
 has-in : (s : List ℕ) (c : ℕ) → hasByte s c ≡ true → List·Memᴰ c s

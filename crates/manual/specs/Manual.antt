@@ -6,17 +6,17 @@ use Prim.Native.Nat.{ℕ, _<_}
 
 -- A heap as far as the manual speaks of it.
 pub record Heap : Type 1 where
-  pub Object : Type 0                                   -- what is made and can be collected: tables, userdata, functions, threads, strings ..
-  pub Root : Object → Type 0                            -- a program has it at hand: globals, registry, stack of the main thread ..
-  pub Refers : Object → Object → Type 0                 -- any reference but those of a table's entries: metatable, environment, upvalue, stack ..
-  pub Entry : Object → Type 0                           -- the entries of a table, pairs of key and value; what is no table has none
-  pub Key : (t : Object) → Entry t → Object → Type 0    -- the entry's key is that object (a number, say, is none)
+  pub Object : Type 0  -- what is made and can be collected: tables, userdata, functions, threads, strings ..
+  pub Root : Object → Type 0  -- a program has it at hand: globals, registry, stack of the main thread ..
+  pub Refers : Object → Object → Type 0  -- any reference but those of a table's entries: metatable, environment, upvalue, stack ..
+  pub Entry : Object → Type 0  -- the entries of a table, pairs of key and value; what is no table has none
+  pub Key : (t : Object) → Entry t → Object → Type 0  -- the entry's key is that object (a number, say, is none)
   pub Value : (t : Object) → Entry t → Object → Type 0  -- the entry's value is that object
-  pub Mode : Object → List ℕ → Type 0                   -- its metatable has a field `__mode`, a string of these characters
-  pub Userdata : Object → Type 0                        -- it is a full userdata
-  pub Gc : Object → Type 0                              -- its metatable has a field `__gc`
-  pub Finalized : Object → Type 0                       -- it was put on the list of those to finalize in an earlier cycle
-  pub created : Object → ℕ                              -- of two userdata the one created later has the greater number
+  pub Mode : Object → List ℕ → Type 0  -- its metatable has a field `__mode`, a string of these characters
+  pub Userdata : Object → Type 0  -- it is a full userdata
+  pub Gc : Object → Type 0  -- its metatable has a field `__gc`
+  pub Finalized : Object → Type 0  -- it was put on the list of those to finalize in an earlier cycle
+  pub created : Object → ℕ  -- of two userdata the one created later has the greater number
 
 module _ (h : Heap) where
   -- 2.10.2: a table's keys are weak if its `__mode` has the character `k`, its values if it has `v` (107 and 118).

@@ -17,16 +17,41 @@ use Rattle.run_record.specs.Upvalues.{isClosed, upvalueValue}
 use Rattle.run_record.specs.Threads.{threadGlobal, threadHook, threadTop, threadOpenCount, threadSuspendedCount, threadOpen, threadSuspended, threadValue}
 use Rattle.main_record.specs.Main.{mainTop, mainOpenCount, mainCi, mainError, mainHook, global, registry, modeName, gcName, typeMeta, mainValue, mainOpen, frameFunction}
 use Rattle.mark.specs.Ops.{Ref, ref, upval}
-use Rattle.modes.specs.declared.Mode.{Mode}
 use Rattle.modes.specs.Modes.{weakMode}
 use Rattle.links.specs.Links.{valueLinks, tableLink, stringLink, each, entryLinks, tableLinks, closureLinks, upvalueLinks, userdataLinks, stackLinks, threadLinks, protoLinks, frameLinks, mainLinks, rootLinks, links, roots}
 use Rattle.mark_laws.specs.Kinds.{links-table, links-closure, links-upvalue, links-userdata, links-thread}
 use Rattle.atomic_laws.specs.Spares.{each-out, each-in}
 use Rattle.manual.specs.Instance.{
-  Rooted, Rooted·global, Rooted·registry, Rooted·type, Rooted·mode, Rooted·gc, Rooted·stack, Rooted·open, Rooted·error, Rooted·hook, Rooted·frame,
-  Refers, Refers·table-meta, Refers·closure-env, Refers·closure-value, Refers·closure-upvalue, Refers·closure-constant, Refers·upvalue-closed,
-  Refers·userdata-meta, Refers·userdata-env, Refers·thread-global, Refers·thread-hook, Refers·thread-stack, Refers·thread-open, Refers·thread-suspended,
-  inTables, inFunctions, inUpvalues, inUserdata, inThreads,
+  Rooted,
+  Rooted·global,
+  Rooted·registry,
+  Rooted·type,
+  Rooted·mode,
+  Rooted·gc,
+  Rooted·stack,
+  Rooted·open,
+  Rooted·error,
+  Rooted·hook,
+  Rooted·frame,
+  Refers,
+  Refers·table-meta,
+  Refers·closure-env,
+  Refers·closure-value,
+  Refers·closure-upvalue,
+  Refers·closure-constant,
+  Refers·upvalue-closed,
+  Refers·userdata-meta,
+  Refers·userdata-env,
+  Refers·thread-global,
+  Refers·thread-hook,
+  Refers·thread-stack,
+  Refers·thread-open,
+  Refers·thread-suspended,
+  inTables,
+  inFunctions,
+  inUpvalues,
+  inUserdata,
+  inThreads,
 }
 
 -- one of lists joined, from the first on
