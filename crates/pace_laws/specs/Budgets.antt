@@ -88,7 +88,7 @@ module _ (l : Lay) (ok : Laid l) (a : Apart l) (r : Rows l) (am : Ample l) (y : 
 
   state-awake : {h : Heap} → State h → at (h .words) PHASE ≢ 0 → Awake h
   state-awake (inl g) d = inl g
-  state-awake {h} (inr p) d = inr (p, ⊎-elim (λ z. z) (λ z. absurd (d z)) (past-phase l ok a r am y w b long f none v p))
+  state-awake {h} (inr p) d = inr (p, ⊎-elim (λ z. z) (λ z. absurd (d (z .0))) (past-phase l ok a r am y w b long f none v p))
 
   -- A single step.
   step-state : (h : Heap) → Live h → State (singleStep l h .1)
@@ -195,7 +195,7 @@ module _ (l : Lay) (ok : Laid l) (a : Apart l) (r : Rows l) (am : Ample l) (y : 
       go s (yes e) d = subst State (eq-yes (at (g .words) PHASE) 0 g _ g e refl) s
       go s (no e) (yes d) = subst State (eq-no (at (g .words) PHASE) 0 g _ g e (eq-yes (at (g .words) PHASE) 4 g _ g d refl)) s
       go (inl s) (no e) (no d) = subst State (eq-no (at (g .words) PHASE) 0 g _ t e (eq-no (at (g .words) PHASE) 4 g _ t d refl)) (rest s)
-      go (inr s) (no e) (no d) = absurd (⊎-elim (λ z. d z) (λ z. e z) (past-phase l ok a r am y w b long f none v s))
+      go (inr s) (no e) (no d) = absurd (⊎-elim (λ z. d z) (λ z. e (z .0)) (past-phase l ok a r am y w b long f none v s))
 
   calls-on : (cs : List Call) (h : Heap) → G h × (at (h .words) PHASE ≢ 0) → State (calls l cs h)
   unfolding calls

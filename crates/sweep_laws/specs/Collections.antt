@@ -67,6 +67,8 @@ pub record Freed (l : Lay) (w b : List ℕ) (k : ℕ) (before : List ℕ) (h₁ 
   pub gone : List ℕ
   pub falls : Falling gone
   pub is : (i : ℕ) → List·Memᴰ i gone ↔ ToFree l w b (slotAt l w k i)
+  -- the fresh index stays
+  pub end : fresh (arenaOf l k) (h .words) ≡ fresh (arenaOf l k) w
   -- they are put at the head of the chain, in rising order, so that it leads through them and then on as before
   pub keeps : WellFormed (arenaOf l k) (h .words)
   pub chain : keeps .free ≡ gone ++ before
@@ -106,7 +108,7 @@ singles-add l zero m h = let q : zero + m ≡ m = omega arith in ap (λ (k : ℕ
 singles-add l (suc n) m h = let q : suc n + m ≡ suc (n + m) = omega arith in ap (λ (k : ℕ). singles l k h) q ∙ singles-add l n m (singleStep l h .1)
 
 -- the other white of the other white
-other-back : (c : ℕ) → 1 ≤ c → c ≤ 2 → (otherWhite (otherWhite c) ≡ c) × (otherWhite c ≤ 2)
+pub other-back : (c : ℕ) → 1 ≤ c → c ≤ 2 → (otherWhite (otherWhite c) ≡ c) × (otherWhite c ≤ 2)
 other-back c f g = go (ℕ-discrete c 1)
   where
     go : Dec (c ≡ 1) → (otherWhite (otherWhite c) ≡ c) × (otherWhite c ≤ 2)
@@ -230,6 +232,7 @@ module _ (l : Lay) (ok : Laid l) (a : Apart l) (r : Rows l) (w b : List ℕ) (lo
       gone = s .gone;
       falls = s .falls;
       is = λ i. (freed-is i, is-freed i);
+      end = s .end ∙ same-fresh;
       keeps = s .keeps;
       chain = s .chain ∙ ap (λ (q : List ℕ). s .gone ++ q) (repainted-keeps l ok a r (x .paint) k g (v k g) .1);
       died = s .died;

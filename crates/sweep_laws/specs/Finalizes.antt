@@ -6,7 +6,8 @@ use mathlib.Core.Path.{_≡_, refl, sym, subst, ap, _∙_}
 use mathlib.Core.Bool.{Bool, true, false, cond}
 use mathlib.Core.Logic.{_⊎_, inl, inr, ⊎-elim, _≢_}
 use mathlib.Core.List.{List, [], _∷_}
-use Prim.Native.Nat.{ℕ, _+_, _*_, _/_, _%_, _≤_, _<_}
+use Prim.Native.Nat.{ℕ, min, _+_, _*_, _/_, _%_, _≤_, _<_}
+use native.Mathlib.Decide.{ℕ-discrete}
 use native.Mathlib.Omega.{arith}
 use lib.ListN.{length}
 use Rattle.base.specs.Ways.{eq-no}
@@ -14,13 +15,14 @@ use Rattle.base.specs.Words.{at}
 use Rattle.base.specs.Heap.{Heap, heap}
 use Rattle.arena_laws.specs.Words.{puts-length, puts-far, puts-at}
 use Rattle.value.specs.Values.{isNil}
+use Rattle.layout.specs.declared.List.{List as Queue}
 use Rattle.layout.specs.declared.Lay.{Lay}
 use Rattle.layout.specs.Places.{PHASE, WHITE, TOTAL, ESTIMATE, THRESHOLD, DEBT}
 use Rattle.lists.specs.declared.Item.the-variants.{Table, Function, Userdata, Thread, Main, Unknown}
 use Rattle.lists.specs.declared.Popped.{Popped}
 use Rattle.lists.specs.declared.Popped.the-variants.{Nothing, Got}
 use Rattle.lists.specs.Lists.{damage, lengthOf, pop}
-use Rattle.lists.specs.Laws.{pop-long, pop-kept}
+use Rattle.lists.specs.Laws.{pop-some, pop-length, pop-long, pop-kept}
 use Rattle.laid.specs.Laid.{Laid, queue-room}
 use Rattle.pacing.specs.Pacing.{lowered}
 use Rattle.sweep_step.specs.Sweeping.{sweepStrings, sweepOthers}
@@ -41,13 +43,13 @@ use Rattle.sweep_laws.specs.Mixtures.{Past, past, past-same}
 abbrev pub Far : ℕ → Type 0
 Far x = (x < 53) ⊎ ((x ≡ WHITE) ⊎ (64 ≤ x))
 
--- What an item's turn, or the end, leaves.
-pub record Wrote (w u : List ℕ) : Type 0 where
+-- What an item's turn, or the end, leaves. The cycle ends only where E holds.
+pub record Wrote (E : Type 0) (w u : List ℕ) : Type 0 where
   pub long : length u ≡ length w
   pub word : (x : ℕ) → Far x → at u x ≡ at w x
-  pub phase : (at u PHASE ≡ at w PHASE) ⊎ (at u PHASE ≡ 0)
+  pub phase : (at u PHASE ≡ at w PHASE) ⊎ ((at u PHASE ≡ 0) × E)
 
-wrote-none : {w : List ℕ} → Wrote w w
+wrote-none : {E : Type 0} {w : List ℕ} → Wrote E w w
 wrote-none = record { long = refl; word = λ x f. refl; phase = inl refl }
 
 -- a far word is none of 53 and 59 to 63
@@ -60,7 +62,7 @@ off (inr (inr f)) p (inl g) e = omega (arith, e, f, g)
 off (inr (inr f)) p (inr g) e = omega (arith, e, f, g .1)
 
 -- The estimate is lowered,
-lower-wrote : (w : List ℕ) → Wrote w (lowerEstimate w)
+lower-wrote : {E : Type 0} (w : List ℕ) → Wrote E w (lowerEstimate w)
 lower-wrote w =
     let cs : List (ℕ × ℕ) = (ESTIMATE, lowered (at w ESTIMATE)) ∷ [] in
     record {
@@ -70,7 +72,7 @@ lower-wrote w =
     }
 
 -- or the threshold is set,
-handed-wrote : (w : List ℕ) → Wrote w (handedOut w)
+handed-wrote : {E : Type 0} (w : List ℕ) → Wrote E w (handedOut w)
 handed-wrote w =
     let n : ℕ = at w TOTAL + 1024 in
     let cs : List (ℕ × ℕ) = (THRESHOLD + 1, n / 4294967296) ∷ (THRESHOLD, n % 4294967296) ∷ [] in
@@ -81,8 +83,8 @@ handed-wrote w =
     }
 
 -- or the cycle ends: Pause, and no debt.
-end-wrote : (w : List ℕ) → 91 ≤ length w → Wrote w (endCycle w)
-end-wrote w h =
+end-wrote : {E : Type 0} (w : List ℕ) → 91 ≤ length w → E → Wrote E w (endCycle w)
+end-wrote w h k =
     let n : ℕ = 9223372036854775808 in
     let c₁ : ℕ × ℕ = (DEBT + 1, n / 4294967296) in
     let c₂ : ℕ × ℕ = (DEBT, n % 4294967296) in
@@ -90,23 +92,35 @@ end-wrote w h =
     record {
       long = puts-length cs w;
       word = λ x f. puts-far cs w x (off f (DEBT + 1) (inr (omega arith, omega arith)), (off f DEBT (inr (omega arith, omega arith)), (off f PHASE (inl refl), tt)));
-      phase = inr (puts-at (c₁ ∷ c₂ ∷ []) PHASE 0 [] w ((λ e. omega (arith, e)), ((λ e. omega (arith, e)), tt)) (omega (arith, h)));
+      phase = inr (puts-at (c₁ ∷ c₂ ∷ []) PHASE 0 [] w ((λ e. omega (arith, e)), ((λ e. omega (arith, e)), tt)) (omega (arith, h)), k);
     }
 
 -- An item's turn.
-item-words : (l : Lay) (w : List ℕ) → 91 ≤ length w → (y : Popped) → Wrote w (finalized l (y, w) .1)
+item-words : {E : Type 0} (l : Lay) (w : List ℕ) → 91 ≤ length w → (y : Popped) → (y ≡ Nothing → E) → Wrote E w (finalized l (y, w) .1)
 unfolding finalizeItem finalize
-item-words l w h Nothing = end-wrote w h
-item-words l w h (Got (Table r)) = wrote-none
-item-words l w h (Got (Function r)) = wrote-none
-item-words l w h (Got (Thread r)) = wrote-none
-item-words l w h (Got Main) = wrote-none
-item-words l w h (Got Unknown) = wrote-none
-item-words l w h (Got (Userdata r)) = go (isNil (methodOf l r w))
+item-words l w h Nothing k = end-wrote w h (k refl)
+item-words l w h (Got (Table r)) k = wrote-none
+item-words l w h (Got (Function r)) k = wrote-none
+item-words l w h (Got (Thread r)) k = wrote-none
+item-words l w h (Got Main) k = wrote-none
+item-words l w h (Got Unknown) k = wrote-none
+item-words {E} l w h (Got (Userdata r)) k = go (isNil (methodOf l r w))
   where
-    go : (d : Bool) → Wrote w (cond {A = Single × List ℕ} d (Cost 100, lowerEstimate w) (Out r (methodOf l r w), handedOut w) .1)
+    go : (d : Bool) → Wrote E w (cond {A = Single × List ℕ} d (Cost 100, lowerEstimate w) (Out r (methodOf l r w), handedOut w) .1)
     go true = lower-wrote w
     go false = handed-wrote w
+
+-- Nothing is popped from an empty list alone.
+abbrev gotten : Popped → ℕ
+gotten Nothing = 0
+gotten (Got x) = 1
+
+pop-empty : (q : Queue) (w : List ℕ) → pop q w .0 ≡ Nothing → lengthOf q w ≡ 0
+pop-empty q w e = go (ℕ-discrete (lengthOf q w) 0)
+  where
+    go : Dec (lengthOf q w ≡ 0) → lengthOf q w ≡ 0
+    go (yes z) = z
+    go (no d) = absurd (let t : _≡_ {A = ℕ} 1 0 = sym (ap (λ (p : Popped × List ℕ). gotten (p .0)) (pop-some q w d)) ∙ ap gotten e in omega (arith, t))
 
 -- At Finalize a single step is that.
 finalize-step : (l : Lay) (h : Heap) → at (h .words) PHASE ≡ 4 → singleStep l h ≡ inBytes (finalizeStep l (h .words)) (h .bytes)
@@ -133,7 +147,7 @@ module _ (l : Lay) (ok : Laid l) (a : Apart l) (r : Rows l) (am : Ample l) (y : 
   past-step h s e =
       subst (λ (t : Heap). Past l ok a r am y w b long f none v t) (sym (ap (λ (t : Single × Heap). t .1) (finalize-step l h e)))
       (past-same l ok a r am y w b long f none v h (heap u (h .bytes)) s (t .long ∙ p-long) (low WHITE (inr (inl refl)) (omega arith)) (low damage (inl (omega arith)) (omega arith))
-      (⊎-elim (λ z. inl (z ∙ p-word PHASE (omega arith) (inl (omega (arith, o .header, a))) ∙ e)) (λ z. inr z) (t .phase))
+      (⊎-elim (λ z. inl (z ∙ p-word PHASE (omega arith) (inl (omega (arith, o .header, a))) ∙ e)) (λ z. inr (z .0, ap (λ (n : ℕ). min n (l .queue .room)) (t .word (l .queue .count) (inr (inr (omega (arith, queue-count l ok))))) ∙ pop-length (l .queue) (h .words) (queue-room l (h .words) ok h-long) ∙ omega (arith, z .1))) (t .phase))
       (λ k c. record {
         cells = record {
           long = t .long ∙ p-long;
@@ -157,8 +171,8 @@ module _ (l : Lay) (ok : Laid l) (a : Apart l) (r : Rows l) (am : Ample l) (y : 
       p-long : length (pop (l .queue) (h .words) .1) ≡ length (h .words)
       p-long = pop-long (l .queue) (h .words) (queue-room l (h .words) ok h-long)
 
-      t : Wrote (pop (l .queue) (h .words) .1) (finalized l (pop (l .queue) (h .words)) .1)
-      t = item-words l (pop (l .queue) (h .words) .1) (omega (arith, p-long, h-long, o .words, o .header, a)) (pop (l .queue) (h .words) .0)
+      t : Wrote (lengthOf (l .queue) (h .words) ≡ 0) (pop (l .queue) (h .words) .1) (finalized l (pop (l .queue) (h .words)) .1)
+      t = item-words l (pop (l .queue) (h .words) .1) (omega (arith, p-long, h-long, o .words, o .header, a)) (pop (l .queue) (h .words) .0) (pop-empty (l .queue) (h .words))
 
       p-word : (x : ℕ) → x ≢ 72 → (x < l .queue .base) ⊎ (l .queue .base + 3 * l .queue .room ≤ x) → at (pop (l .queue) (h .words) .1) x ≡ at (h .words) x
       p-word x d q = pop-kept (l .queue) (h .words) (queue-room l (h .words) ok h-long) x (λ z. d (omega (arith, z, queue-count l ok))) q

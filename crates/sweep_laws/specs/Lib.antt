@@ -5,3 +5,4 @@ pub mod Repaints
 pub mod Collections
 pub mod Mixtures
 pub mod Finalizes
+pub mod Outcomes

@@ -67,12 +67,15 @@ pub record Marking (l : Lay) (w b u : List ℕ) : Type 0 where
   pub phase : at u PHASE ≡ 1
 
 -- The outcome of a collection that began at words w and bytes b, with the chains of the arenas v; the atomic step left the heap `left`.
--- In each arena exactly what is to be freed is freed; the white has flipped, and no damage is marked.
+-- In each arena exactly what is to be freed is freed; the white has flipped, and no damage is marked. At Pause the queue is empty.
 pub record Outcome (l : Lay) (w b : List ℕ) (v : Arenas l w) (h : Heap) : Type 0 where
   pub left : Heap
+  pub long : length (h .words) ≡ length w
+  pub size : length (h .bytes) ≡ length b
   pub arenas : (k : ℕ) (i : k ≤ 5) → Freed l w b k (v k i .free) left h
   pub white : at (h .words) WHITE ≡ otherWhite (at w WHITE)
   pub whole : at (h .words) damage ≡ at w damage
+  pub empty : at (h .words) PHASE ≡ 0 → lengthOf (l .queue) (h .words) ≡ 0
 
 -- a word of pacing
 pub pacing-counter : (p : ℕ) → 57 ≤ p → p < 69 → Counter p
@@ -149,7 +152,7 @@ module _ (l : Lay) (ok : Laid l) (a : Apart l) (r : Rows l) (am : Ample l) (y : 
     pub size : length (h .words) ≡ length (h₀ .words)
     pub white : at (h .words) WHITE ≡ at (h₀ .words) WHITE
     pub mark : at (h .words) damage ≡ at (h₀ .words) damage
-    pub phase : (at (h .words) PHASE ≡ 4) ⊎ (at (h .words) PHASE ≡ 0)
+    pub phase : (at (h .words) PHASE ≡ 4) ⊎ ((at (h .words) PHASE ≡ 0) × (lengthOf (l .queue) (h .words) ≡ 0))
     pub arenas : (k : ℕ) (i : k ≤ 5) → To l k (fresh (arenaOf l k) (h₀ .words)) h₀ h (ready-arenas l ok a r w b long f v h₀ x k i .free)
 
   -- A collection under way: at Pause, in Propagate, in the sweep.
@@ -283,7 +286,7 @@ module _ (l : Lay) (ok : Laid l) (a : Apart l) (r : Rows l) (am : Ample l) (y : 
 
   -- What leaves arenas, white and damage mark keeps what is past.
   pub past-same : (h h′ : Heap) → Past h → length (h′ .words) ≡ length (h .words) → at (h′ .words) WHITE ≡ at (h .words) WHITE → at (h′ .words) damage ≡ at (h .words) damage
-      → ((at (h′ .words) PHASE ≡ 4) ⊎ (at (h′ .words) PHASE ≡ 0)) → ((k : ℕ) → k ≤ 5 → Same (arenaOf l k) h h′) → Past h′
+      → ((at (h′ .words) PHASE ≡ 4) ⊎ ((at (h′ .words) PHASE ≡ 0) × (lengthOf (l .queue) (h′ .words) ≡ 0))) → ((k : ℕ) → k ≤ 5 → Same (arenaOf l k) h h′) → Past h′
   past-same h h′ (past h₀ x s) e g m p same =
       past h₀ x (record {
         size = e ∙ s .size;
@@ -293,13 +296,14 @@ module _ (l : Lay) (ok : Laid l) (a : Apart l) (r : Rows l) (am : Ample l) (y : 
         arenas = λ k c. clean-same (ready-arenas l ok a r w b long f v h₀ x k c) (s .arenas k c) (same k c);
       })
 
-  pub past-phase : {h : Heap} → Past h → (at (h .words) PHASE ≡ 4) ⊎ (at (h .words) PHASE ≡ 0)
+  -- The phase is Finalize then, or Pause with an empty queue.
+  pub past-phase : {h : Heap} → Past h → (at (h .words) PHASE ≡ 4) ⊎ ((at (h .words) PHASE ≡ 0) × (lengthOf (l .queue) (h .words) ≡ 0))
   past-phase (past h₀ x s) = s .phase
 
   pub past-store : (p : ℕ) → 57 ≤ p → p < 69 → (n : ℕ) (h : Heap) → Past h → Past (heap (put p n (h .words)) (h .bytes))
   past-store p g q n h s =
       past-same h (heap (put p n (h .words)) (h .bytes)) s (length-set (h .words) p n) (word WHITE (λ e. omega (arith, e, g))) (word damage (λ e. omega (arith, e, g)))
-      (⊎-elim (λ z. inl (word PHASE (λ e. omega (arith, e, g)) ∙ z)) (λ z. inr (word PHASE (λ e. omega (arith, e, g)) ∙ z)) (past-phase s))
+      (⊎-elim (λ z. inl (word PHASE (λ e. omega (arith, e, g)) ∙ z)) (λ z. inr (word PHASE (λ e. omega (arith, e, g)) ∙ z .0, ap (λ (k : ℕ). min k (l .queue .room)) (word (l .queue .count) (λ e. omega (arith, e, q, queue-count l ok))) ∙ z .1)) (past-phase s))
       (λ k c. low-same l ok a r k c (h .words) (put p n (h .words)) (h .bytes) (length-set (h .words) p n) (λ t z. word t (λ e. omega (arith, e, z, q))))
     where
       word : (t : ℕ) → t ≢ p → at (put p n (h .words)) t ≡ at (h .words) t
@@ -309,7 +313,10 @@ module _ (l : Lay) (ok : Laid l) (a : Apart l) (r : Rows l) (am : Ample l) (y : 
   pub past-freed : l .bytes ≤ length b → (h : Heap) → Past h → Outcome l w b v h
   past-freed wide h (past h₀ x s) = record {
     left = h₀;
+    long = s .size ∙ x .paint .long;
+    size = s .arenas 0 (omega arith) .size ∙ ap length (x .bytes);
     arenas = λ k i. arena-freed l ok a r w b long f v h₀ x wide h (s .white) (s .arenas) k i;
     white = s .white ∙ x .white;
     whole = s .mark ∙ x .whole;
+    empty = λ e. ⊎-elim (λ z. absurd (let t : ⊥ = omega (arith, e, z) in t)) (λ z. z .1) (s .phase);
   }
