@@ -15,6 +15,7 @@ use Rattle.base.specs.Ways.{ifEq, eq-yes, eq-no, le-yes, le-no}
 use Rattle.base.specs.Words.{at, put}
 use Rattle.base.specs.Heap.{Heap, heap}
 use Rattle.value.specs.declared.UdRef.{UdRef}
+use Rattle.value.specs.Handles.{putHandle}
 use Rattle.layout.specs.declared.Sizes.{Sizes}
 use Rattle.layout.specs.declared.Lay.{Lay}
 use Rattle.layout.specs.Sizes.{SizesOk}
@@ -124,7 +125,7 @@ module _ (l : Lay) (ok : Laid l) (a : Apart l) (r : Rows l) (am : Ample l) (y : 
       (state-store TOTAL (omega arith) (omega arith) _ u c s))
 
   handed-state : (kind : ℕ) (x : UdRef) (left : ℕ) (u c : List ℕ) → State (heap u c) → State (heap (handed kind x left u) c)
-  unfolding handed
+  unfolding handed putHandle
   handed-state kind x left u c s =
       state-store (REMAINING + 1) (omega arith) (omega arith) _ _ c
       (state-store REMAINING (omega arith) (omega arith) _ _ c
