@@ -2,6 +2,7 @@
 -- Assumes nothing.
 --     Shifted, shifted-does     items moved up by one, from a place on
 --     queued-new, queued-old, queued-was     the new item, those before, and no other
+--     queued-place              where each stands
 --     queued-outside            nothing changes outside the queue
 use mathlib.Core.Path.{_≡_, refl, sym, ap, subst, _∙_}
 use mathlib.Core.Bool.{Bool, true, false, cond}
@@ -31,7 +32,7 @@ module _ (l : Lay) (ok : Laid l) (a : Apart l) where
   o = order l ok a
 
   -- an item stored elsewhere leaves one
-  item-apart : (i j : ℕ) (x : Item) (w : List ℕ) → (i ≡ j → ⊥) → itemIn (putItem (place (l .queue) j) x w) (place (l .queue) i) ≡ itemIn w (place (l .queue) i)
+  pub item-apart : (i j : ℕ) (x : Item) (w : List ℕ) → (i ≡ j → ⊥) → itemIn (putItem (place (l .queue) j) x w) (place (l .queue) i) ≡ itemIn w (place (l .queue) i)
   item-apart i j x w d = item-three (place (l .queue) i) (putItem (place (l .queue) j) x w) w (kept (place (l .queue) i) (omega arith) (omega arith)) (kept (place (l .queue) i + 1) (omega arith) (omega arith)) (kept (place (l .queue) i + 2) (omega arith) (omega arith))
     where
       out : (q : ℕ) → place (l .queue) i ≤ q → q < place (l .queue) i + 3 → Dec (i < j) → Outside (place (l .queue) j) 3 q
@@ -107,13 +108,13 @@ module _ (l : Lay) (ok : Laid l) (a : Apart l) where
 
   -- A userdata is queued where there is room.
   module _ (start : ℕ) (r : UdRef) (w : List ℕ) (long : l .words ≤ length w) (room : lengthOf (l .queue) w < l .queue .room) where
-    abbrev n : ℕ
+    abbrev pub n : ℕ
     n = lengthOf (l .queue) w
 
-    abbrev v : List ℕ
+    abbrev pub v : List ℕ
     v = push (l .queue) (Userdata r) w
 
-    abbrev m : ℕ
+    abbrev pub m : ℕ
     m = shifted l start (creationOf l r v) n v .0
 
     abbrev s : List ℕ
@@ -122,10 +123,10 @@ module _ (l : Lay) (ok : Laid l) (a : Apart l) where
     abbrev z : List ℕ
     z = putItem (place (l .queue) m) (Userdata r) s
 
-    v-long : l .words ≤ length v
+    pub v-long : l .words ≤ length v
     v-long = omega (arith, long, push-long (l .queue) (Userdata r) w (queue-room l w ok long))
 
-    v-length : lengthOf (l .queue) v ≡ n + 1
+    pub v-length : lengthOf (l .queue) v ≡ n + 1
     v-length = push-length (l .queue) (Userdata r) w (queue-room l w ok long) room
 
     does : Shifted n v m s
@@ -151,8 +152,22 @@ module _ (l : Lay) (ok : Laid l) (a : Apart l) where
     z-here : itemIn z (place (l .queue) m) ≡ Userdata r
     z-here = item-back (place (l .queue) m) (Userdata r) s (omega (arith, does .low, room, queue-room l w ok long .fits, long, s-long, push-long (l .queue) (Userdata r) w (queue-room l w ok long)))
 
-    v-item : (i : ℕ) → i < n → itemIn v (place (l .queue) i) ≡ itemIn w (place (l .queue) i)
+    pub v-item : (i : ℕ) → i < n → itemIn v (place (l .queue) i) ≡ itemIn w (place (l .queue) i)
     v-item i h = push-items (l .queue) (Userdata r) w (queue-room l w ok long) (queue-mark l ok a) i h
+
+    -- Where it stands, and where those before do then.
+    pub queued-length : lengthOf (l .queue) (queued l start r w) ≡ lengthOf (l .queue) w + 1
+    queued-length = ap (lengthOf (l .queue)) queued-is ∙ z-length
+
+    pub queued-place : (m ≤ n) × (itemIn (queued l start r w) (place (l .queue) m) ≡ Userdata r)
+        × ((i : ℕ) → i < m → itemIn (queued l start r w) (place (l .queue) i) ≡ itemIn w (place (l .queue) i))
+        × ((i : ℕ) → m ≤ i → i < n → itemIn (queued l start r w) (place (l .queue) (i + 1)) ≡ itemIn w (place (l .queue) i))
+    queued-place = (
+      does .low,
+      ap (λ (x : List ℕ). itemIn x (place (l .queue) m)) queued-is ∙ z-here,
+      (λ i f. ap (λ (x : List ℕ). itemIn x (place (l .queue) i)) queued-is ∙ item-apart i m (Userdata r) s (λ e. omega (arith, e, f)) ∙ does .before i f ∙ v-item i (omega (arith, f, does .low))),
+      (λ i f g. ap (λ (x : List ℕ). itemIn x (place (l .queue) (i + 1))) queued-is ∙ item-apart (i + 1) m (Userdata r) s (λ e. omega (arith, e, f)) ∙ does .moved i f g ∙ v-item i g),
+    )
 
     -- the new item is there
     pub queued-new : On (l .queue) (Userdata r) (queued l start r w)

@@ -9,14 +9,14 @@ use mathlib.Core.Bool.{Bool, true, false, cond, true≢false}
 use mathlib.Core.List.{List}
 use mathlib.Core.Logic.{_⊎_, inl, inr, ⊎-elim, _≢_}
 use Prim.Native.Nat.{ℕ, min, _+_, _*_, _≤_, _<_}
-use native.Mathlib.Decide.{ℕ-discrete}
+use native.Mathlib.Decide.{ℕ-discrete, decLt}
 use native.Mathlib.Omega.{arith}
 use lib.Dec.{ltb}
 use lib.ListN.{length, length-set}
 use lib.Seq.{getD-set-same, getD-set-other}
 use Rattle.base.specs.Ways.{ifEq}
 use Rattle.base.specs.Words.{at}
-use Rattle.arena.specs.Slots.{known, colour, setColour, gen, used}
+use Rattle.arena.specs.Slots.{row, known, colour, setColour, gen, used}
 use Rattle.value.specs.declared.UdRef.{UdRef}
 use Rattle.value.specs.declared.TableOr.{TableOr}
 use Rattle.value.specs.declared.Value.{Value}
@@ -29,7 +29,7 @@ use Rattle.lists.specs.declared.Item.the-variants.{Userdata}
 use Rattle.lists.specs.Lists.{damage, lengthOf}
 use Rattle.record.specs.Fields.{bodyAt}
 use Rattle.record.specs.Userdata.{udMeta, udFinalized, setUdFinalized}
-use Rattle.laid.specs.Laid.{Laid, userdata-words}
+use Rattle.laid.specs.Laid.{Laid, userdata-words, userdata-room}
 use Rattle.modes.specs.Modes.{gcMethod}
 use Rattle.separate.specs.Separation.{isDue, enqueue, separateSlot, separated, queued}
 use Rattle.link_laws.specs.Agrees.{table-same}
@@ -47,8 +47,8 @@ use Rattle.atomic_laws.specs.Bodies.{Bodies, body-next, Flags, flags-rea
 abbrev pub handle : Lay → List ℕ → ℕ → UdRef
 handle l w i = record { 0 = i; 1 = gen (l .userdata) i w }
 
--- After the first k slots: those that were due are gray and queued, the others have their colour; nothing else is queued; and
--- past the boundary at most their finalized marks differ.
+-- After the first k slots: those that were due are gray, queued and marked finalized, the others have their colour and mark; nothing
+-- else is queued; and past the boundary at most the finalized marks differ.
 pub record Sorted (l : Lay) (c : ℕ) (w : List ℕ) (k : ℕ) (u : List ℕ) : Type 0 where
   pub held : Held l w u
   pub flags : Flags l k w u
@@ -57,13 +57,15 @@ pub record Sorted (l : Lay) (c : ℕ) (w : List ℕ) (k : ℕ) (u : List ℕ) : 
   pub inside : (i : ℕ) → i < k → isDue l i c w ≡ true → On (l .queue) (Userdata (handle l w i)) u
   pub only : (y : Item) → On (l .queue) y u → (i : ℕ) × (i < k) × (isDue l i c w ≡ true) × (y ≡ Userdata (handle l w i))
   pub few : lengthOf (l .queue) u ≤ k
+  pub marks : (i : ℕ) → i < k → isDue l i c w ≡ true → at u (bodyAt (l .userdata) i + 6) ≡ 1
+  pub unmarked : (i : ℕ) → (k ≤ i) ⊎ (isDue l i c w ≡ false) → at u (bodyAt (l .userdata) i + 6) ≡ at w (bodyAt (l .userdata) i + 6)
 
 module _ (l : Lay) (ok : Laid l) (a : Apart l) (am : Ample l) (y : Bodies l) (w : List ℕ) (long : l .words ≤ length w) (c : ℕ) where
   abbrev o : Order l
   o = order l ok a
 
   -- Whether a slot that is still to come is due is read from words that have not changed.
-  due-same : (k : ℕ) (u : List ℕ) → k < l .userdata .slots → Sorted l c w k u → isDue l k c u ≡ isDue l k c w
+  pub due-same : (k : ℕ) (u : List ℕ) → k < l .userdata .slots → Sorted l c w k u → isDue l k c u ≡ isDue l k c w
   unfolding isDue
   due-same k u h s =
       ap (λ (x : ℕ). ifEq (known x) c (cond (udFinalized p u) false (cond (isNil (gcMethod l (udMeta p u) u)) false true)) false) (s .others k h (inl (omega arith)))
@@ -93,6 +95,8 @@ module _ (l : Lay) (ok : Laid l) (a : Apart l) (am : Ample l) (y : Bodies l) (w 
     inside = λ i f g. s .inside i (before i f g) g;
     only = λ z i. let r = s .only z i in (r .0, omega (arith, r .1), r .2, r .3);
     few = up (lengthOf (l .queue) u) (s .few);
+    marks = λ i f g. s .marks i (before i f g) g;
+    unmarked = λ i g. s .unmarked i (⊎-elim (λ h. inl (omega (arith, h))) (λ h. inr h) g);
   }
     where
       up : (n : ℕ) → n ≤ k → n ≤ k + 1
@@ -184,8 +188,32 @@ module _ (l : Lay) (ok : Laid l) (a : Apart l) (am : Ample l) (y : Bodies l) (w 
           inside = λ i f g. in-queue i f g (ℕ-discrete i k);
           only = λ z i. from-queue z (subst (λ x. On (l .queue) z x) is-queued i);
           few = up (lengthOf (l .queue) u₃) (lengthOf (l .queue) u) (q .1) (s .few);
+          marks = λ i f g. marked i f g (ℕ-discrete i k);
+          unmarked = λ i g. mark-word i ∙ other-mark i (λ z. not-k i g z) ∙ s .unmarked i (⊎-elim (λ n. inl (omega (arith, n))) (λ n. inr n) g);
         }
       where
+        -- the marks lie past the boundary
+        mark-word : (i : ℕ) → at u₃ (bodyAt (l .userdata) i + 6) ≡ at u₁ (bodyAt (l .userdata) i + 6)
+        mark-word i =
+            word (bodyAt (l .userdata) i + 6) (λ z. omega (arith, z, o .past-userdata, queue-count l ok, o .header, a)) (λ z. omega (arith, z, o .past-userdata, o .header, a)) (inr (omega (arith, o .past-userdata, a)))
+            ∙ getD-set-other u₁ (l .userdata .base + k) (bodyAt (l .userdata) i + 6) 3 0 (λ z. omega (arith, z, o .past-userdata, h, a))
+
+        other-mark : (i : ℕ) → (i ≡ k → ⊥) → at u₁ (bodyAt (l .userdata) i + 6) ≡ at u (bodyAt (l .userdata) i + 6)
+        other-mark i d = getD-set-other u (bodyAt (l .userdata) k + 6) (bodyAt (l .userdata) i + 6) 1 0 (apart (decLt i k))
+          where
+            apart : Dec (i < k) → bodyAt (l .userdata) i + 6 ≢ bodyAt (l .userdata) k + 6
+            apart (yes n) z = omega (arith, z, body-next (l .userdata) 7 i k (userdata-words l ok) n)
+            apart (no n) z = omega (arith, z, body-next (l .userdata) 7 k i (userdata-words l ok) (omega (arith, n, d)))
+
+        marked : (i : ℕ) → i < k + 1 → isDue l i c w ≡ true → Dec (i ≡ k) → at u₃ (bodyAt (l .userdata) i + 6) ≡ 1
+        marked i f g (no z) = mark-word i ∙ other-mark i z ∙ s .marks i (omega (arith, f, z)) g
+        marked i f g (yes z) =
+            ap (λ (j : ℕ). at u₃ (bodyAt (l .userdata) j + 6)) z ∙ mark-word k
+            ∙ getD-set-same u (bodyAt (l .userdata) k + 6) 1 0 (within (k * l .userdata .stride) (l .userdata .stride) (l .userdata .slots * l .userdata .stride) (row (l .userdata .stride) h) (userdata-words l ok) (userdata-room l u ok u-long .fits))
+          where
+            within : (x t z : ℕ) → x + t ≤ z → t ≡ 7 → l .userdata .bodies + z ≤ length u → l .userdata .bodies + x + 6 < length u
+            within x t z f e n = omega (arith, f, e, n)
+
         up : (n m : ℕ) → n ≡ m + 1 → m ≤ k → n ≤ k + 1
         up n m f g = omega (arith, f, g)
 
@@ -217,7 +245,7 @@ module _ (l : Lay) (ok : Laid l) (a : Apart l) (am : Ample l) (y : Bodies l) (w 
             (queued-was l ok a start (record { 0 = k; 1 = gen (l .userdata) k u₂ }) u₂ u₂-long room₂ z i)
 
   -- One slot,
-  slot-sorted : (start k : ℕ) (x : ℕ × List ℕ) → k < used (l .userdata) w → Sorted l c w k (x .1) → Sorted l c w (k + 1) (separateSlot l start c k x .1)
+  pub slot-sorted : (start k : ℕ) (x : ℕ × List ℕ) → k < used (l .userdata) w → Sorted l c w k (x .1) → Sorted l c w (k + 1) (separateSlot l start c k x .1)
   unfolding separateSlot
   slot-sorted start k x h s = go (isDue l k c (x .1)) refl
     where
@@ -229,7 +257,7 @@ module _ (l : Lay) (ok : Laid l) (a : Apart l) (am : Ample l) (y : Bodies l) (w 
       go false e = passed k (x .1) (sym (due-same k (x .1) n s) ∙ e) s
 
   -- none yet
-  first-sorted : lengthOf (l .queue) w ≡ 0 → Sorted l c w 0 w
+  pub first-sorted : lengthOf (l .queue) w ≡ 0 → Sorted l c w 0 w
   first-sorted e = record {
     held = held-none;
     flags = record { past = λ q f g. refl };
@@ -238,6 +266,8 @@ module _ (l : Lay) (ok : Laid l) (a : Apart l) (am : Ample l) (y : Bodies l) (w 
     inside = λ i f g. absurd (let z : ⊥ = omega (arith, f) in z);
     only = λ z i. absurd (on-none (l .queue) z w e i);
     few = none (lengthOf (l .queue) w) e;
+    marks = λ i f g. absurd (let z : ⊥ = omega (arith, f) in z);
+    unmarked = λ i g. refl;
   }
     where
       none : (n : ℕ) → n ≡ 0 → n ≤ 0

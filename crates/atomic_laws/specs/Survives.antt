@@ -114,55 +114,55 @@ module _ (l : Lay) (ok : Laid l) (a : Apart l) (am : Ample l) (y : Bodies l) (w 
   abbrev ord : Order l
   ord = order l ok a
 
-  abbrev z : List ℕ
+  abbrev pub z : List ℕ
   z = separated l u .1
 
   -- the words before the flip
-  abbrev F : List ℕ
+  abbrev pub F : List ℕ
   F = finished l b u .1
 
-  s : Sorted l (at u WHITE) u (used (l .userdata) u) z
+  pub s : Sorted l (at u WHITE) u (used (l .userdata) u) z
   s = sorted l ok a am y w b long f none u c e
 
-  z-long : l .words ≤ length z
+  pub z-long : l .words ≤ length z
   z-long = omega (arith, whole-long l ok a am w long (c .whole), s .held .long)
 
-  done : Ok l z b (KeptRoot l w b) (KeptRoot l w b) None 0 0 0 [] F
+  pub done : Ok l z b (KeptRoot l w b) (KeptRoot l w b) None 0 0 0 [] F
   done = finished-ok l ok a am y w b long f none u c e .0
 
-  F-long : l .words ≤ length F
+  pub F-long : l .words ≤ length F
   F-long = whole-long l ok a am z z-long (done .whole)
 
-  same-white : at F WHITE ≡ at w WHITE
+  pub same-white : at F WHITE ≡ at w WHITE
   same-white =
       done .marked .kept WHITE (counters (omega arith) (omega arith))
       ∙ s .held .kept WHITE (omega (arith, queue-count l ok)) (inl (omega (arith, ord .header, a))) (omega (arith, ord .header, a))
       ∙ c .marked .kept WHITE (counters (omega arith) (omega arith))
 
   -- the words with the new white
-  abbrev new : ℕ
+  abbrev pub new : ℕ
   new = otherWhite (at F WHITE)
 
-  abbrev G : List ℕ
+  abbrev pub G : List ℕ
   G = put WHITE new F
 
-  G-long : l .words ≤ length G
+  pub G-long : l .words ≤ length G
   G-long = omega (arith, F-long, length-set F WHITE new)
 
-  whites : (1 ≤ new) × (new ≤ 4) × (new ≢ at F WHITE)
+  pub whites : (1 ≤ new) × (new ≤ 4) × (new ≢ at F WHITE)
   whites = other-white (at F WHITE) (omega (arith, same-white, f .low)) (omega (arith, same-white, f .high))
 
   -- Occupied slots are the same before the collection and at the flip.
-  occupied-then : (x : Ref) → Occupied l w x ↔ (1 ≤ colourW l x F)
+  pub occupied-then : (x : Ref) → Occupied l w x ↔ (1 ≤ colourW l x F)
   occupied-then x =
       let p = occupied-back l ok a am y w b long f none u c e x in
       ((λ h. done .inv .occ x .0 (p .0 h)), λ h. p .1 (done .inv .occ x .1 h))
 
-  G-shade : (x : Ref) → 1 ≤ colourW l x F → colourW l x G ≡ colourW l x F
+  pub G-shade : (x : Ref) → 1 ≤ colourW l x F → colourW l x G ≡ colourW l x F
   G-shade x h = header-shade l ok a WHITE new F (omega arith) x h
 
   -- Before the flip an occupied slot is marked, or in the current white.
-  white-or : (x : Ref) → Occupied l w x → (3 ≤ colourW l x F) ⊎ (colourW l x F ≡ at w WHITE)
+  pub white-or : (x : Ref) → Occupied l w x → (3 ≤ colourW l x F) ⊎ (colourW l x F ≡ at w WHITE)
   white-or x h = go (colour-rises ord (done .marked) x)
     where
       before : (colourW l x u ≡ colourW l x w) ⊎ (3 ≤ colourW l x u) → colourW l x F ≡ colourW l x u → (3 ≤ colourW l x F) ⊎ (colourW l x F ≡ at w WHITE)
@@ -207,7 +207,7 @@ module _ (l : Lay) (ok : Laid l) (a : Apart l) (am : Ample l) (y : Bodies l) (w 
       some p q h g k = omega (arith, h, g, k)
 
   -- The strings that take the new white are spared,
-  held-spared : (x : Ref) → List·Memᴰ x (held l G) → 1 ≤ colourW l x G → Occupied l w x → Spared l w b x
+  pub held-spared : (x : Ref) → List·Memᴰ x (held l G) → 1 ≤ colourW l x G → Occupied l w x → Spared l w b x
   held-spared x m h k =
       let r = each-out (λ j. heldBy l G (itemAt (l .weak) j G)) (lengthOf (l .weak) G) 0 x m in
       let j = r .0 in
@@ -237,18 +237,18 @@ module _ (l : Lay) (ok : Laid l) (a : Apart l) (am : Ample l) (y : Bodies l) (w 
       plain j m h = omega (arith, h)
 
   -- after the strings are painted
-  abbrev H : List ℕ
+  abbrev pub H : List ℕ
   H = keepAll l new G
 
-  H-long : l .words ≤ length H
+  pub H-long : l .words ≤ length H
   H-long =
       let k = keep-all l ok a new G in
       omega (arith, G-long, k .1 .long, ap length (k .0))
 
-  H-shade : (x : Ref) → colourW l x H ≡ colourW l x (whitens l new (held l G) G)
+  pub H-shade : (x : Ref) → colourW l x H ≡ colourW l x (whitens l new (held l G) G)
   H-shade x = ap (λ (v : List ℕ). colourW l x v) (keep-all l ok a new G .0)
 
-  H-occupied : (x : Ref) → 1 ≤ colourW l x F → 1 ≤ colourW l x H
+  pub H-occupied : (x : Ref) → 1 ≤ colourW l x F → 1 ≤ colourW l x H
   H-occupied x h =
       subst (λ k. 1 ≤ k) (sym (H-shade x))
       (⊎-elim (λ p. subst (λ k. 1 ≤ k) (sym (p .2)) (whites .0)) (λ p. subst (λ k. 1 ≤ k) (sym (p ∙ G-shade x h)) h) (whitens-cases l ok a new (whites .0) (whites .1) (held l G) G G-long x))

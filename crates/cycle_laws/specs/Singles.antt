@@ -85,7 +85,7 @@ module _ (l : Lay) (ok : Laid l) (a : Apart l) (b : List ℕ) where
   atomic-step u e d = propagate-step l u b e ∙ ap (λ (x : Propagated × List ℕ). heap (propagated l b x .1) b) (one-empty l ok a b u d)
 
   -- A step during Propagate is marking,
-  advanced-marked : (u : List ℕ) → l .words ≤ length u → Marked l u (advanced l (propagateOne (ops l) l b u))
+  pub advanced-marked : (u : List ℕ) → l .words ≤ length u → Marked l u (advanced l (propagateOne (ops l) l b u))
   advanced-marked u long = go (propagateOne (ops l) l b u) (moves-marked l ok a (one-moves l ok a b u long) long)
     where
       go : (x : Propagated × List ℕ) → Marked l u (x .1) → Marked l u (advanced l x)
@@ -96,7 +96,7 @@ module _ (l : Lay) (ok : Laid l) (a : Apart l) (b : List ℕ) where
       go (Empty, y) m = m
 
   -- and makes the words lighter.
-  advanced-less : (u : List ℕ) → l .words ≤ length u → lengthOf (l .gray) u ≢ 0 → weight l (advanced l (propagateOne (ops l) l b u)) + 1 ≤ weight l u
+  pub advanced-less : (u : List ℕ) → l .words ≤ length u → lengthOf (l .gray) u ≢ 0 → weight l (advanced l (propagateOne (ops l) l b u)) + 1 ≤ weight l u
   advanced-less u long d = go (propagateOne (ops l) l b u) (moves-marked l ok a (one-moves l ok a b u long) long) (one-less l ok a b u long d)
     where
       sums : (x y z : ℕ) → x ≤ y → y + 1 ≤ z → x + 1 ≤ z

@@ -5,7 +5,7 @@ use Prim.Native.Nat.{ℕ, _^_, _<_}
 use native.Mathlib.Omega.{arith}
 use lib.ListN.{length}
 use Rattle.base.specs.Ways.{ifLt, ifEq}
-use Rattle.base.specs.Words.{at, put}
+use Rattle.base.specs.Words.{at}
 use Rattle.base.specs.Heap.{Heap}
 use Rattle.layout.specs.Sizes.{SizesOk, sizes-fit-ok}
 use Rattle.layout.specs.Layout.{layOf, planned, neededOf}
@@ -15,6 +15,7 @@ use Rattle.layout.specs.declared.Lay.{Lay}
 use Rattle.layout.specs.declared.Opened.the-variants.{Fits}
 use Rattle.layout.specs.declared.Needs.{Needs}
 use Rattle.layout.specs.declared.Needs.the-variants as needing
+use Rattle.told.specs.Answers.{two}
 use Rattle.newheap.specs.New.{makeHeap}
 use Rattle.newheap.specs.declared.Made.{Made}
 use Rattle.newheap.specs.declared.Made.the-variants as making
@@ -34,13 +35,9 @@ sizesOf s = record {
   frames = at s 9;
 }
 
--- words 0 and 1 of an answer
-abbrev pub told : ℕ → ℕ → List ℕ → List ℕ
-told x y out = put 1 y (put 0 x out)
-
 -- What a heap needs: words and bytes. Sizes are tested first (4), then that the answer has room (1).
 abbrev pub neededTold : List ℕ → Needs → ℕ × List ℕ
-neededTold out (needing.Room n m) = ifLt (length out) 2 (1, out) (0, told n m out)
+neededTold out (needing.Room n m) = ifLt (length out) 2 (1, out) (0, two n m out)
 neededTold out (needing.Refused r) = (r, out)
 
 unfoldable pub neededIn : Sizes → List ℕ → ℕ × List ℕ

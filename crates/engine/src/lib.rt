@@ -8,11 +8,11 @@ mod header;
 mod objects;
 
 ghost use mathlib.Core.Path.{_≡_};
-ghost use Prim.Native.Nat.{_≤_, _<_};
+ghost use Prim.Native.Nat.{_<_};
 ghost use lib.ListN.{length};
 ghost use Rattle.base.specs.Words.{at};
 ghost use Rattle.base.specs.Heap.{heap};
-ghost use Rattle.engine.specs.Engine.{sizesOf, told, neededIn, neededOn, codeOf, makeHeapOn};
+ghost use Rattle.engine.specs.Engine.{sizesOf, neededIn, neededOn, codeOf, makeHeapOn};
 
 // The word at p as a number.
 fn number(s: &[u32], p: usize) -> usize
@@ -41,15 +41,6 @@ fn sizes_of(s: &[u32]) -> Sizes
     }
 }
 
-// Words 0 and 1 of an answer.
-fn tell(out: &mut [u32], x: u32, y: u32)
-    requires { ⌜ 2 ≤ length (now out) ⌝ }
-    ensures { λ _. ⌜ now (out .exit) ≡ told x y (now (out .entry)) ⌝ }
-{
-    base::put(out, 0, x);
-    base::put(out, 1, y);
-}
-
 fn needed_in(s: Sizes, out: &mut [u32]) -> u32
     ensures { λ r. ⌜ (r, now (out .exit)) ≡ neededIn s (now (out .entry)) ⌝ }
 {
@@ -58,7 +49,7 @@ fn needed_in(s: Sizes, out: &mut [u32]) -> u32
             if out.len() < 2 {
                 return 1;
             }
-            tell(out, l.words as u32, l.bytes as u32);
+            told::put_two(out, l.words as u32, l.bytes as u32);
             0
         }
         Opened::Refused(n) => n,

@@ -4,13 +4,10 @@
 use mathlib.Core.Bool.{cond}
 use mathlib.Core.List.{List}
 use Prim.Native.Nat.{ℕ}
-use Rattle.base.specs.Ways.{ifEq}
-use Rattle.base.specs.Words.{at}
 use Rattle.base.specs.Heap.{Heap}
 use Rattle.value.specs.declared.ThreadRef.{ThreadRef}
 use Rattle.value.specs.declared.Value.{Value}
 use Rattle.layout.specs.declared.Lay.{Lay}
-use Rattle.layout.specs.Places.{DAMAGE}
 use Rattle.run_record.specs.Threads.{setThreadHook}
 use Rattle.mark.specs.Words.{ops, shade}
 use Rattle.propagate.specs.Barriers.{barrierForward}
@@ -19,10 +16,6 @@ use Rattle.given.specs.declared.Served.{Served}
 use Rattle.given.specs.declared.Served.the-variants.{Done, Refused}
 use Rattle.given.specs.Given.{isSound}
 use Rattle.owners.specs.Owners.{onThread}
-
--- The damage mark was set by the call: 8.
-abbrev pub unmarked : List ℕ → Served → Served
-unmarked w r = ifEq (at w DAMAGE) 0 r (Refused 8)
 
 -- The record of thread t is at p: the value is stored, then the barrier acts by the colour of the thread.
 unfoldable pub hookAt : Lay → ThreadRef → Value → ℕ → List ℕ → Served × List ℕ

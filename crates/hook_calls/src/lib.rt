@@ -11,18 +11,7 @@ ghost use Prim.Native.Nat.{_+_, _≤_};
 ghost use lib.ListN.{length};
 ghost use Rattle.base.specs.Heap.{heap};
 ghost use Rattle.laid.specs.Laid.{Laid};
-ghost use Rattle.hook_calls.specs.HookCalls.{unmarked, hookAt, threadSetHookIn, threadSetHook};
-
-// An answer of work that may have set the damage mark: then it is 8.
-fn unmarked(w: &[u32], r: Served) -> Served
-    requires { ⌜ 91 ≤ length (now w) ⌝ }
-    ensures { λ a. ⌜ a ≡ unmarked (now (w .entry)) r ⌝ }
-{
-    if base::get(w, layout::DAMAGE) == 0 {
-        return r;
-    }
-    Served::Refused(8)
-}
+ghost use Rattle.hook_calls.specs.HookCalls.{hookAt, threadSetHookIn, threadSetHook};
 
 // The hook function of thread t, whose record is at p; the value is marked if the thread is black.
 fn set_hook_at(w: &mut [u32], l: Lay, t: ThreadRef, p: usize, v: Value) -> Served
@@ -58,7 +47,7 @@ pub fn thread_set_hook(w: &mut [u32], b: &[u8], t: ThreadRef, v: Value) -> Serve
     match test1::enter(w, b) {
         Opened::Fits(l) => {
             let r = set_hook_in(w, l, t, v);
-            unmarked(w, r)
+            given::unmarked(w, r)
         }
         Opened::Refused(n) => Served::Refused(n),
     }

@@ -70,7 +70,7 @@ module _ (l : Lay) (w : Words ℕ) (ok : Laid l) (long : l .words ≤ length w) 
   unfolding Laid
   header-room = omega (arith, ok .header)
 
--- the bytes of all texts, and the words of each record
+-- the bytes of all texts, the words of each record, and the most prototypes
 module _ (l : Lay) (ok : Laid l) where
   pub text-bytes : 64 * l .strings .slots ≤ l .bytes
   unfolding Laid
@@ -99,3 +99,7 @@ module _ (l : Lay) (ok : Laid l) where
   pub string-words : l .strings .stride ≡ 1
   unfolding Laid
   string-words = ok .strings .stride
+
+  pub protos-most : l .protos .room ≤ 256
+  unfolding Laid
+  protos-most = ok .protos .room

@@ -51,7 +51,7 @@ use Rattle.manual.specs.Instance.{
   inThreads,
   heap,
 }
-use Rattle.manual.specs.Agrees.{weak-keys, weak-values, accessible-exact, finalize-exact, retained-exact}
+use Rattle.manual.specs.Agrees.{table-of, weak-keys, weak-values, accessible-exact, finalize-exact, retained-exact}
 
 pub record Agreement (l : Lay) (w b : List ℕ) : Type 0 where
   -- They agree in what is accessible, what is to be finalized, and what a cycle does not collect.
@@ -130,10 +130,6 @@ module _ (l : Lay) (w b : List ℕ) where
       either true = refl
       either false = ap (λ (x : Bool). cond x [] (cond (m .keys) [] (valueLinks (nodeKey p j w)) ++ cond (m .values) [] (valueLinks (nodeValue p j w)))) e
 
-  kind-of : (r : Ref) → EntryOf l w b r → r .kind ≡ 1
-  kind-of r (EntryOf·array k i f n) = k
-  kind-of r (EntryOf·node k j f m n) = k
-
   open-refers : (r q : Ref) → r .kind ≡ 3 → isClosed (inUpvalues l w b r) w ≡ false → Refers l w b r q → ⊥
   open-refers r q k z (Refers·table-meta e i) = omega (arith, k, e)
   open-refers r q k z (Refers·closure-env e i) = omega (arith, k, e)
@@ -151,8 +147,8 @@ module _ (l : Lay) (w b : List ℕ) where
 
   open-strong : (x y : Object l w b) → x .0 .kind ≡ 3 → isClosed (inUpvalues l w b (x .0)) w ≡ false → Strong (heap l w b) x y → ⊥
   open-strong x y k z (Strong·other i) = open-refers (x .0) (y .0) k z i
-  open-strong x y k z (Strong·key e i n) = let f = kind-of (x .0) e in omega (arith, k, f)
-  open-strong x y k z (Strong·value e i n) = let f = kind-of (x .0) e in omega (arith, k, f)
+  open-strong x y k z (Strong·key e i n) = let f = table-of l w b (x .0) e in omega (arith, k, f)
+  open-strong x y k z (Strong·value e i n) = let f = table-of l w b (x .0) e in omega (arith, k, f)
 
   -- a thread's references, read around its error value
   module _ (u : List ℕ) (r q : Ref) (k : r .kind ≡ 5) where
@@ -209,7 +205,7 @@ module _ (l : Lay) (w b : List ℕ) where
     open-upvalue = open-strong;
     error-value = λ u r q k s t i. around u r q k s t i;
     frame-function = λ x i f g m. From·start (Rooted·frame i f g m);
-    string-spared = λ x y e h z k m. let c = kind-of (x .0) e in record {
+    string-spared = λ x y e h z k m. let c = table-of l w b (x .0) e in record {
       table = record { 0 = x .0 .at; 1 = x .0 .gen };
       kept = subst (λ (n : ℕ). Kept l w b (ref n (x .0 .at) (x .0 .gen))) c (retained-exact l w b x .0 h);
       weak = weak-is x c z;

@@ -202,7 +202,8 @@ module _ (l : Lay) (w b : List ℕ) where
       by-entry k (inl (e, i, n)) = Strong·key e i (λ z. true≢false (sym (weak-keys x k .0 z) ∙ n))
       by-entry k (inr (e, i, n)) = Strong·value e i (λ z. true≢false (sym (weak-values x k .0 z) ∙ n))
 
-  table-of : (r : Ref) → EntryOf l w b r → r .kind ≡ 1
+  -- what has an entry is a table
+  pub table-of : (r : Ref) → EntryOf l w b r → r .kind ≡ 1
   table-of r (EntryOf·array k i f n) = k
   table-of r (EntryOf·node k j f m n) = k
 

@@ -197,7 +197,8 @@ pub fn mark_value_at(w: &mut [u32], l: Lay, p: usize)
     mark_tagged(w, l, tag, low, high);
 }
 
-// The same. Most values of a table or a stack are no object, or a table: these are told here, before a call is made.
+// The same. Most values of a table or a stack are no object, or a table that is marked already: these are told here, before a
+// call is made.
 pub fn mark_place(w: &mut [u32], l: Lay, p: usize)
     requires { ⌜ Laid l ⌝ }
     requires { ⌜ l .words ≤ length (now w) ⌝ }
@@ -209,8 +210,9 @@ pub fn mark_place(w: &mut [u32], l: Lay, p: usize)
         return;
     }
     if tag == 5 {
-        mark_table(w, l, TableRef(base::get(w, p + 1), base::get(w, p + 2)));
-        return;
+        if !is_white(shade(w, l.tables, base::get(w, p + 1), base::get(w, p + 2))) {
+            return;
+        }
     }
     mark_value_at(w, l, p);
 }

@@ -1,11 +1,9 @@
 -- The call that stores a key and its value in a node: 1 and 8 as every call, then 4, then 2. A condition of row 4 that speaks of the
 -- table's record (the node's place, another node's key) holds only if the table is named: a table that names nothing is 2,
 -- whatever the place, but 4 with a NaN key. Assumes nothing.
-use mathlib.Core.Path.{_≡_, ap, _∙_}
 use mathlib.Core.Bool.{Bool, true, false, cond}
 use mathlib.Core.List.{List}
-use Prim.Native.Nat.{ℕ, zero, suc, _+_, _-_, _≤_, _<_}
-use native.Mathlib.Omega.{arith}
+use Prim.Native.Nat.{ℕ}
 use Rattle.base.specs.Ways.{ifLe, ifEq}
 use Rattle.base.specs.Heap.{Heap}
 use Rattle.value.specs.declared.TableRef.{TableRef}
@@ -15,6 +13,7 @@ use Rattle.value.specs.Numbers.{isNaN}
 use Rattle.value.specs.Values.{isNil, keyEqual}
 use Rattle.layout.specs.declared.Lay.{Lay}
 use Rattle.record.specs.Tables.{nodeCount, nodeKey, setNode}
+use Rattle.making.specs.Turns.{turns}
 use Rattle.test1.specs.Calls.{callMarked, inWords}
 use Rattle.given.specs.declared.Served.{Served}
 use Rattle.given.specs.declared.Served.the-variants.{Done, Refused}
@@ -42,41 +41,13 @@ isNode k v = cond (isNaNKey k) false (cond (isNil k) (isNil v) true)
 unfoldable pub isTwin : ℕ → ℕ → Value → List ℕ → ℕ → Bool
 isTwin p j k w i = ifEq i j false (keyEqual (nodeKey p i w) k)
 
--- one of n numbers from i on passes the test
-unfoldable pub some : (ℕ → Bool) → ℕ → ℕ → Bool
-some f zero i = false
-some f (suc n) i = cond (f i) true (some f n (i + 1))
+-- A turn of the search: found, or the rest of it decides.
+unfoldable pub twinTurn : ℕ → ℕ → Value → List ℕ → ℕ → Bool → Bool
+twinTurn p j k w i rest = cond (isTwin p j k w i) true rest
 
 -- A key equal to another node's. Nil is no key, and any number of nodes may be empty.
 unfoldable pub isTaken : ℕ → ℕ → Value → List ℕ → Bool
-isTaken p j k w = cond (isNil k) false (some (isTwin p j k w) (nodeCount p w) 0)
-
--- from the first node on it is the whole
-pub taken-start : (p j n : ℕ) (k : Value) (w : List ℕ) → isNil k ≡ false → n ≡ nodeCount p w → some (isTwin p j k w) (n - 0) 0 ≡ isTaken p j k w
-unfolding isTaken
-taken-start p j n k w e h =
-    let q : n - 0 ≡ nodeCount p w = omega arith in
-    rw (e, q)
-
--- a number is passed, is found, and there is none left: r is what the whole gives
-module _ (f : ℕ → Bool) (n i : ℕ) {r : Bool} (rest : some f (n - i) i ≡ r) where
-  step : i < n → cond (f i) true (some f (n - (i + 1)) (i + 1)) ≡ r
-  unfolding some
-  step h =
-      let q : suc (n - (i + 1)) ≡ n - i = omega arith in
-      ap (λ (m : ℕ). some f m i) q ∙ rest
-
-  pub some-again : i < n → f i ≡ false → some f (n - (i + 1)) (i + 1) ≡ r
-  some-again h e = rw e at (step h)
-
-  pub some-found : i < n → f i ≡ true → true ≡ r
-  some-found h e = rw e at (step h)
-
-  pub some-end : n ≤ i → false ≡ r
-  unfolding some
-  some-end h =
-      let q : zero ≡ n - i = omega arith in
-      ap (λ (m : ℕ). some f m i) q ∙ rest
+isTaken p j k w = cond (isNil k) false (turns (twinTurn p j k w) false (nodeCount p w) 0)
 
 -- Node j of table t, whose record is at p. An index outside its range and a key equal to another node's are 4; a key or a value
 -- that names no occupied slot of its kind is 2. A node is always stored with key and value. Storing in a table calls

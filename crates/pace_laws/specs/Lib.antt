@@ -1,1 +1,4 @@
 pub mod Budgets
+pub mod Lasting
+pub mod Ends
+pub mod Sames

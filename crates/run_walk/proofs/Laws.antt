@@ -1,5 +1,5 @@
 -- The parts of a layout in a number of words; one prototype by the definition, step by step. Assumes nothing.
---     parts-in, stack-most, frames-most, protos-most     what a planned layout gives
+--     parts-in, stack-most, frames-most                  what a planned layout gives
 --     Nested                                             the invariant of the loop over nested prototypes
 --     below-enough, proto-step                           any bound above a number walks it the same way
 --     nested-below, nested-skipped                       the two ways of a turn
@@ -41,10 +41,6 @@ module _ (l : Lay) where
   pub frames-most : Laid l → l .frames .room ≤ 32
   unfolding Laid
   frames-most ok = ok .frames .room
-
-  pub protos-most : Laid l → l .protos .room ≤ 256
-  unfolding Laid
-  protos-most ok = ok .protos .room
 
 -- What is left gives the whole, and both buffers stay as long.
 pub record Nested (step : ℕ → List ℕ × List ℕ → List ℕ × List ℕ) (m : ℕ) (w₀ seen₀ w seen : List ℕ) (j : ℕ) : Type 0 where

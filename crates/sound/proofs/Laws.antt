@@ -1,5 +1,4 @@
 -- One prototype by the definition, step by step, and what the set of numbers seen tells. Assumes nothing.
---     protos-most                               a planned layout has at most 256 prototypes
 --     Looking                                   the invariant of the loop over nested prototypes
 --     below-enough, proto-step                  any bound above a number gives the same
 --     child-below, child-skipped                the two ways of a turn
@@ -20,7 +19,6 @@ use Rattle.base.specs.Ways.{lt-yes, lt-no, eq-yes, eq-no}
 use Rattle.base.specs.Words.{at, put}
 use Rattle.layout.specs.declared.Lay.{Lay}
 use Rattle.main_record.specs.Prototypes.{protoNested, protoChild}
-use Rattle.laid.specs.Laid.{Laid}
 use Rattle.making.specs.Turns.{turns, eachTurn, each}
 use Rattle.sound.specs.Sound.{constantsSound, childSound, soundBy, soundBelow, soundProto, Known, Added, Grown}
 
@@ -29,10 +27,6 @@ pub record Looking (l : Lay) (w : List ℕ) (n m : ℕ) (seen₀ seen : List ℕ
   pub rest : turns (eachTurn (childSound l w (soundBelow l w n) n)) true (m - j) j ≡ each (childSound l w (soundBelow l w n) n) m
   pub new : Added l w seen₀ seen
   pub full : length seen ≡ length seen₀
-
-pub protos-most : (l : Lay) → Laid l → l .protos .room ≤ 256
-unfolding Laid
-protos-most l ok = ok .protos .room
 
 module _ (l : Lay) (w : List ℕ) where
   pub below-enough : (b n : ℕ) → n < b → soundBelow l w b n ≡ soundProto l w n

@@ -3,10 +3,9 @@
 -- Fewer than six words are refused with 1. Assumes nothing.
 use mathlib.Core.List.{List}
 use Prim.Native.Nat.{ℕ, _%_}
-use lib.ListN.{length}
-use Rattle.base.specs.Ways.{ifLt}
 use Rattle.base.specs.Words.{put}
 use Rattle.base.specs.Heap.{Heap}
+use Rattle.told.specs.Answers.{lent}
 use Rattle.value.specs.declared.Value.{Value}
 use Rattle.value.specs.declared.Value.the-variants.{Nil}
 use Rattle.value.specs.Values.{putValue}
@@ -30,8 +29,6 @@ told Busy out = (0, six 5 0 0 Nil out)
 told Failed out = (0, six 6 0 0 Nil out)
 told (Refused n) out = (n, out)
 
-abbrev pub toldWith : Answer × Heap → List ℕ → (ℕ × Heap) × List ℕ
-toldWith x out = ((told (x .0) out .0, x .1), told (x .0) out .1)
-
-unfoldable pub onStep : (Heap → Answer × Heap) → Heap → List ℕ → (ℕ × Heap) × List ℕ
-onStep call h out = ifLt (length out) 6 ((1, h), out) (toldWith (call h) out)
+-- Each call, with six words for its answer.
+abbrev pub onStep : (Heap → Answer × Heap) → Heap → List ℕ → (ℕ × Heap) × List ℕ
+onStep = lent 6 told

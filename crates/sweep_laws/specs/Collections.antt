@@ -102,7 +102,7 @@ pub record Collection (l : Lay) (w b : List ℕ) (v : Arenas l w) : Type 0 where
   pub arenas : (k : ℕ) (i : k ≤ 5) → Freed l w b k (v k i .free) (singles l marking (heap w b)) (singles l steps (heap w b))
 
 -- some steps, then others
-singles-add : (l : Lay) (n m : ℕ) (h : Heap) → singles l (n + m) h ≡ singles l m (singles l n h)
+pub singles-add : (l : Lay) (n m : ℕ) (h : Heap) → singles l (n + m) h ≡ singles l m (singles l n h)
 unfolding singles
 singles-add l zero m h = let q : zero + m ≡ m = omega arith in ap (λ (k : ℕ). singles l k h) q
 singles-add l (suc n) m h = let q : suc n + m ≡ suc (n + m) = omega arith in ap (λ (k : ℕ). singles l k h) q ∙ singles-add l n m (singleStep l h .1)
@@ -274,17 +274,17 @@ module _ (l : Lay) (ok : Laid l) (a : Apart l) (r : Rows l) (am : Ample l) (y : 
 -- Demand 3 by single steps.
 module _ (l : Lay) (ok : Laid l) (a : Apart l) (r : Rows l) (am : Ample l) (y : Bodies l) (w b : List ℕ) (long : l .words ≤ length w) (f : AllWhite l w) (none : lengthOf (l .queue) w ≡ 0)
     (wide : l .bytes ≤ length b) (pause : at w PHASE ≡ 0) (v : Arenas l w) where
-  c : Collected l w b
+  pub c : Collected l w b
   c = collected l ok a am y w b long pause f none
 
   -- the steps up to and with the atomic one
-  abbrev marking : ℕ
+  abbrev pub marking : ℕ
   marking = c .steps + 2
 
-  abbrev h₁ : Heap
+  abbrev pub h₁ : Heap
   h₁ = singles l (c .steps + 2) (heap w b)
 
-  x : Ready l w b h₁
+  pub x : Ready l w b h₁
   x =
       let t = subst (λ (h : Heap). Ready l (stored PHASE 1 w) b h) (sym (c .state)) (atomic-ready l ok a r am y (stored PHASE 1 w) b (omega (arith, long, length-set w PHASE 1)) (stored-white l ok a PHASE phase-counter 1 f) (none-v l ok a am w b long f (c .steps) none) (advances l b (c .steps) (startCycle l w)) (steps-ok l ok a am w b long f (c .steps)) (steps-noted l ok a am w b long f (c .steps))) in
       record {
@@ -297,10 +297,10 @@ module _ (l : Lay) (ok : Laid l) (a : Apart l) (r : Rows l) (am : Ample l) (y : 
         exact = c .exact;
       }
 
-  d : SweepDone l h₁ (ready-arenas l ok a r w b long f v h₁ x)
+  pub d : SweepDone l h₁ (ready-arenas l ok a r w b long f v h₁ x)
   d = sweep-done l ok a r h₁ (ready-arenas l ok a r w b long f v h₁ x) (ready-long l ok a r w b long f v h₁ x) (ready-low l ok a r w b long f v h₁ x) (ready-high l ok a r w b long f v h₁ x) (x .phase) (x .cursor)
 
-  abbrev h₂ : Heap
+  abbrev pub h₂ : Heap
   h₂ = singles l (d .steps) h₁
 
   pub freed-exactly : Collection l w b v

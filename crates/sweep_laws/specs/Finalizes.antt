@@ -2,11 +2,12 @@
 -- Assumes nothing.
 --     item-words, finalize-words     what it writes
 --     past-step                      so what the sweep freed stays
+--     past-less                      it makes the queue shorter, or ends the cycle
 use mathlib.Core.Path.{_≡_, refl, sym, subst, ap, _∙_}
 use mathlib.Core.Bool.{Bool, true, false, cond}
 use mathlib.Core.Logic.{_⊎_, inl, inr, ⊎-elim, _≢_}
 use mathlib.Core.List.{List, [], _∷_}
-use Prim.Native.Nat.{ℕ, min, _+_, _*_, _/_, _%_, _≤_, _<_}
+use Prim.Native.Nat.{ℕ, min, _+_, _-_, _*_, _/_, _%_, _≤_, _<_}
 use native.Mathlib.Decide.{ℕ-discrete}
 use native.Mathlib.Omega.{arith}
 use lib.ListN.{length}
@@ -22,7 +23,7 @@ use Rattle.lists.specs.declared.Item.the-variants.{Table, Function, Userdata, T
 use Rattle.lists.specs.declared.Popped.{Popped}
 use Rattle.lists.specs.declared.Popped.the-variants.{Nothing, Got}
 use Rattle.lists.specs.Lists.{damage, lengthOf, pop}
-use Rattle.lists.specs.Laws.{pop-some, pop-length, pop-long, pop-kept}
+use Rattle.lists.specs.Laws.{pop-none, pop-some, pop-length, pop-long, pop-kept}
 use Rattle.laid.specs.Laid.{Laid, queue-room}
 use Rattle.pacing.specs.Pacing.{lowered}
 use Rattle.sweep_step.specs.Sweeping.{sweepStrings, sweepOthers}
@@ -83,6 +84,11 @@ handed-wrote w =
     }
 
 -- or the cycle ends: Pause, and no debt.
+pub end-phase : (w : List ℕ) → 91 ≤ length w → at (endCycle w) PHASE ≡ 0
+end-phase w h =
+    let n : ℕ = 9223372036854775808 in
+    puts-at ((DEBT + 1, n / 4294967296) ∷ (DEBT, n % 4294967296) ∷ []) PHASE 0 [] w ((λ e. omega (arith, e)), ((λ e. omega (arith, e)), tt)) (omega (arith, h))
+
 end-wrote : {E : Type 0} (w : List ℕ) → 91 ≤ length w → E → Wrote E w (endCycle w)
 end-wrote w h k =
     let n : ℕ = 9223372036854775808 in
@@ -92,11 +98,11 @@ end-wrote w h k =
     record {
       long = puts-length cs w;
       word = λ x f. puts-far cs w x (off f (DEBT + 1) (inr (omega arith, omega arith)), (off f DEBT (inr (omega arith, omega arith)), (off f PHASE (inl refl), tt)));
-      phase = inr (puts-at (c₁ ∷ c₂ ∷ []) PHASE 0 [] w ((λ e. omega (arith, e)), ((λ e. omega (arith, e)), tt)) (omega (arith, h)), k);
+      phase = inr (end-phase w h, k);
     }
 
 -- An item's turn.
-item-words : {E : Type 0} (l : Lay) (w : List ℕ) → 91 ≤ length w → (y : Popped) → (y ≡ Nothing → E) → Wrote E w (finalized l (y, w) .1)
+pub item-words : {E : Type 0} (l : Lay) (w : List ℕ) → 91 ≤ length w → (y : Popped) → (y ≡ Nothing → E) → Wrote E w (finalized l (y, w) .1)
 unfolding finalizeItem finalize
 item-words l w h Nothing k = end-wrote w h (k refl)
 item-words l w h (Got (Table r)) k = wrote-none
@@ -115,7 +121,7 @@ abbrev gotten : Popped → ℕ
 gotten Nothing = 0
 gotten (Got x) = 1
 
-pop-empty : (q : Queue) (w : List ℕ) → pop q w .0 ≡ Nothing → lengthOf q w ≡ 0
+pub pop-empty : (q : Queue) (w : List ℕ) → pop q w .0 ≡ Nothing → lengthOf q w ≡ 0
 pop-empty q w e = go (ℕ-discrete (lengthOf q w) 0)
   where
     go : Dec (lengthOf q w ≡ 0) → lengthOf q w ≡ 0
@@ -123,7 +129,7 @@ pop-empty q w e = go (ℕ-discrete (lengthOf q w) 0)
     go (no d) = absurd (let t : _≡_ {A = ℕ} 1 0 = sym (ap (λ (p : Popped × List ℕ). gotten (p .0)) (pop-some q w d)) ∙ ap gotten e in omega (arith, t))
 
 -- At Finalize a single step is that.
-finalize-step : (l : Lay) (h : Heap) → at (h .words) PHASE ≡ 4 → singleStep l h ≡ inBytes (finalizeStep l (h .words)) (h .bytes)
+pub finalize-step : (l : Lay) (h : Heap) → at (h .words) PHASE ≡ 4 → singleStep l h ≡ inBytes (finalizeStep l (h .words)) (h .bytes)
 unfolding singleStep
 finalize-step l h e =
     sym
@@ -182,3 +188,40 @@ module _ (l : Lay) (ok : Laid l) (a : Apart l) (r : Rows l) (am : Ample l) (y : 
 
       high : (x : ℕ) → 73 ≤ x → (x < l .queue .base) ⊎ (l .queue .base + 3 * l .queue .room ≤ x) → at (finalized l (pop (l .queue) (h .words)) .1) x ≡ at (h .words) x
       high x g q = t .word x (inr (inr (omega (arith, g)))) ∙ p-word x (omega (arith, g)) q
+
+  -- The cycle ends if the queue is empty; else it is shorter by one.
+  pub past-less : (h : Heap) → Past l ok a r am y w b long f none v h → at (h .words) PHASE ≡ 4
+      → (at (singleStep l h .1 .words) PHASE ≡ 0) ⊎ ((at (singleStep l h .1 .words) PHASE ≡ 4) × (lengthOf (l .queue) (singleStep l h .1 .words) + 1 ≡ lengthOf (l .queue) (h .words)))
+  unfolding finalizeStep
+  past-less h s e =
+      subst (λ (x : Heap). (at (x .words) PHASE ≡ 0) ⊎ ((at (x .words) PHASE ≡ 4) × (lengthOf (l .queue) (x .words) + 1 ≡ lengthOf (l .queue) (h .words)))) (sym (ap (λ (x : Single × Heap). x .1) (finalize-step l h e)))
+      (go (ℕ-discrete (lengthOf (l .queue) (h .words)) 0))
+    where
+      h-long : l .words ≤ length (h .words)
+      h-long = past-long s
+
+      p-long : length (pop (l .queue) (h .words) .1) ≡ length (h .words)
+      p-long = pop-long (l .queue) (h .words) (queue-room l (h .words) ok h-long)
+
+      u : List ℕ
+      u = finalized l (pop (l .queue) (h .words)) .1
+
+      ended : lengthOf (l .queue) (h .words) ≡ 0 → at u PHASE ≡ 0
+      ended z =
+          ap (λ (x : Popped × List ℕ). at (finalized l x .1) PHASE) (pop-none (l .queue) (h .words) z)
+          ∙ end-phase (h .words) (omega (arith, h-long, o .words, o .header, a))
+
+      go : Dec (lengthOf (l .queue) (h .words) ≡ 0) → (at u PHASE ≡ 0) ⊎ ((at u PHASE ≡ 4) × (lengthOf (l .queue) u + 1 ≡ lengthOf (l .queue) (h .words)))
+      go (yes z) = inl (ended z)
+      go (no d) =
+          let t = item-words {E = ⊥} l (pop (l .queue) (h .words) .1) (omega (arith, p-long, h-long, o .words, o .header, a)) (pop (l .queue) (h .words) .0) (λ z. d (pop-empty (l .queue) (h .words) z)) in
+          inr (
+            ⊎-elim (λ z. z) (λ z. absurd (z .1)) (t .phase)
+                ∙ pop-kept (l .queue) (h .words) (queue-room l (h .words) ok h-long) PHASE (λ z. omega (arith, z, queue-count l ok)) (inl (omega (arith, o .header, a)))
+                ∙ e,
+            last (lengthOf (l .queue) u) (lengthOf (l .queue) (h .words))
+                (ap (λ (n : ℕ). min n (l .queue .room)) (t .word (l .queue .count) (inr (inr (omega (arith, queue-count l ok))))) ∙ pop-length (l .queue) (h .words) (queue-room l (h .words) ok h-long)) d,
+          )
+        where
+          last : (n m : ℕ) → n ≡ m - 1 → m ≢ 0 → n + 1 ≡ m
+          last n m f d = omega (arith, f, d)

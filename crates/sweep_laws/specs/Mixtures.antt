@@ -44,7 +44,7 @@ use Rattle.cycle_laws.specs.Singles.{start-step, gray-step, atomic-step, starte
 use Rattle.cycle_laws.specs.Collects.{frame-one, started-ok, started-noted}
 use Rattle.sweep_laws.specs.Batches.{Same, clean-same}
 use Rattle.sweep_laws.specs.Places.{Rows, low-same}
-use Rattle.sweep_laws.specs.Turns.{Arenas, To, Stage, stage-first, stage-step}
+use Rattle.sweep_laws.specs.Turns.{Arenas, To, InQueue, Stage, stage-first, stage-step}
 use Rattle.sweep_laws.specs.Repaints.{Repainted, repainted-then, low-repainted}
 use Rattle.sweep_laws.specs.Collections.{Freed, Ready, ready-arenas, ready-long, ready-low, ready-high, arena-freed, atomic-ready}
 
@@ -266,6 +266,7 @@ module _ (l : Lay) (ok : Laid l) (a : Apart l) (r : Rows l) (am : Ample l) (y : 
       sweeping h₀ x j m i (record {
         long = length-set (h .words) p n ∙ s .long;
         first = λ t z. word t (λ e. omega (arith, e, z, g)) ∙ s .first t z;
+        queue = λ t z. word t (off-queue t z) ∙ s .queue t z;
         white = word WHITE (λ e. omega (arith, e, g)) ∙ s .white;
         most = s .most;
         strings = λ e. let t = s .strings e in (word PHASE (λ z. omega (arith, z, g)) ∙ t .0, word CURSOR-SLOT (λ z. omega (arith, z, g)) ∙ t .1);
@@ -280,6 +281,10 @@ module _ (l : Lay) (ok : Laid l) (a : Apart l) (r : Rows l) (am : Ample l) (y : 
     where
       word : (t : ℕ) → t ≢ p → at (put p n (h .words)) t ≡ at (h .words) t
       word t d = getD-set-other (h .words) p t n 0 d
+
+      off-queue : (t : ℕ) → InQueue l t → t ≢ p
+      off-queue t (inl z) e = omega (arith, e, z, q)
+      off-queue t (inr z) e = omega (arith, e, z .0, q, o .header, a)
 
       same : (k : ℕ) → k ≤ 5 → Same (arenaOf l k) h (heap (put p n (h .words)) (h .bytes))
       same k c = low-same l ok a r k c (h .words) (put p n (h .words)) (h .bytes) (length-set (h .words) p n) (λ t z. word t (λ e. omega (arith, e, z, q)))

@@ -30,7 +30,7 @@ use Rattle.sweep_laws.specs.Collections.{slotAt, ToFree, Freed, other-ba
 use Rattle.sweep_laws.specs.Mixtures.{Outcome}
 
 -- whether a slot is in a list
-listed : (i : ℕ) (xs : List ℕ) → Dec (List·Memᴰ i xs)
+pub listed : (i : ℕ) (xs : List ℕ) → Dec (List·Memᴰ i xs)
 listed i [] = no (λ m. List·Memᴰ·not-nil m)
 listed i (x ∷ xs) = go (ℕ-discrete i x) (listed i xs)
   where

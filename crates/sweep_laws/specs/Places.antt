@@ -155,7 +155,7 @@ module _ (l : Lay) (ok : Laid l) (a : Apart l) (r : Rows l) where
 
   -- What is arena k's is outside arena j.
   module _ (j k : ℕ) (i : j ≤ 5) (g : k ≤ 5) (d : j ≢ k) where
-    header-outside : (x : ℕ) → (arenaOf l k) .top ≤ x → x < (arenaOf l k) .top + 3 → Outside (arenaOf l j) x
+    pub header-outside : (x : ℕ) → (arenaOf l k) .top ≤ x → x < (arenaOf l k) .top + 3 → Outside (arenaOf l j) x
     header-outside x p q = record {
       header = go (decLt k j);
       cells = inl (omega (arith, q, top-is k g, arena-header l o j i, g));
@@ -166,7 +166,7 @@ module _ (l : Lay) (ok : Laid l) (a : Apart l) (r : Rows l) where
         go (yes f) = inl (omega (arith, f, q, top-is k g, top-is j i))
         go (no f) = inr (omega (arith, f, d, p, top-is k g, top-is j i))
 
-    cells-outside : (x : ℕ) → (arenaOf l k) .base ≤ x → x < (arenaOf l k) .base + 4 * (arenaOf l k) .slots → Outside (arenaOf l j) x
+    pub cells-outside : (x : ℕ) → (arenaOf l k) .base ≤ x → x < (arenaOf l k) .base + 4 * (arenaOf l k) .slots → Outside (arenaOf l j) x
     cells-outside x p q = record {
       header = inr (omega (arith, p, top-is j i, arena-header l o k g, i));
       cells = go (decLt k j);

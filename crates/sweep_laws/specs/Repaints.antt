@@ -271,7 +271,7 @@ module _ (l : Lay) (ok : Laid l) (a : Apart l) (r : Rows l) where
       repainted-then s (whitens-repainted c low high rs (ifEq (colourW l x u) 0 u (paintW l x c u)) (omega (arith, long, s .long)))
 
   -- The end of the phase: the cursor at the first slot, the phase SweepString.
-  begun-words : (n : ℕ) (u : List ℕ) → l .words ≤ length u
+  pub begun-words : (n : ℕ) (u : List ℕ) → l .words ≤ length u
       → Repainted l u (begun n u) × (at (begun n u) WHITE ≡ at u WHITE) × (at (begun n u) PHASE ≡ 2) × (at (begun n u) CURSOR-SLOT ≡ 0)
   unfolding begun
   begun-words n u long =
@@ -285,7 +285,7 @@ module _ (l : Lay) (ok : Laid l) (a : Apart l) (r : Rows l) where
       )
 
   -- The flip, the spared strings and the entries that die.
-  flipped-words : (b F : List ℕ) → l .words ≤ length F → 1 ≤ at F WHITE → at F WHITE ≤ 2 → Repainted l F (flipped l b F) × (at (flipped l b F) WHITE ≡ otherWhite (at F WHITE))
+  pub flipped-words : (b F : List ℕ) → l .words ≤ length F → 1 ≤ at F WHITE → at F WHITE ≤ 2 → Repainted l F (flipped l b F) × (at (flipped l b F) WHITE ≡ otherWhite (at F WHITE))
   unfolding flipped clearWeakTables
   flipped-words b F long low high = (
     repainted-then flip (repainted-then strings (repainted-then entries (marked-repainted list))),

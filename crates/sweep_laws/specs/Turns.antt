@@ -33,11 +33,11 @@ use Rattle.sweep_step.specs.Sweeping.{arenaAt, sizeAt, taken, sweepArena, strin
 use Rattle.step.specs.declared.Single.{Single}
 use Rattle.step.specs.declared.Single.the-variants.{Cost}
 use Rattle.step.specs.Step.{startCycle, propagateStep, costs, singleStep}
-use Rattle.mark_laws.specs.Apart.{Apart, Order, order}
+use Rattle.mark_laws.specs.Apart.{Apart, Order, order, arena-lists}
 use Rattle.atomic_laws.specs.Survives.{other-white}
 use Rattle.cycle_laws.specs.Singles.{singles}
 use Rattle.sweep_laws.specs.Batches.{Clean, clean-none, clean-cleaned, clean-same}
-use Rattle.sweep_laws.specs.Places.{Rows, arena-at, six-room, swept-same, low-same, low-outside}
+use Rattle.sweep_laws.specs.Places.{Rows, arena-at, top-is, body-past, six-room, swept-same, low-same, low-outside}
 
 -- The six arenas are well-formed.
 abbrev pub Arenas : Lay → List ℕ → Type 0
@@ -47,12 +47,17 @@ Arenas l w = (k : ℕ) → k ≤ 5 → WellFormed (arenaOf l k) w
 abbrev pub To : Lay → ℕ → ℕ → Heap → Heap → List ℕ → Type 0
 To l k n h h′ before = Clean (arenaOf l k) (otherWhite (at (h .words) WHITE)) (at (h .words) WHITE) n h h′ before
 
+-- a word of the queue: its count, or one of its items
+abbrev pub InQueue : Lay → ℕ → Type 0
+InQueue l x = (x ≡ 72) ⊎ ((l .queue .base ≤ x) × (x < l .boundary))
+
 -- The sweep that began at the heap h₀ is at slot n of arena j: the arenas before it are swept, those after it are as they were.
 -- At the strings the phase is SweepString, at the others Sweep, past the last it is Finalize. Settings, roots and the damage mark,
--- the first 53 words, stay.
+-- the first 53 words, stay, and so does the queue.
 pub record Stage (l : Lay) (h₀ : Heap) (v : Arenas l (h₀ .words)) (j n : ℕ) (h : Heap) : Type 0 where
   pub long : length (h .words) ≡ length (h₀ .words)
   pub first : (x : ℕ) → x < 53 → at (h .words) x ≡ at (h₀ .words) x
+  pub queue : (x : ℕ) → InQueue l x → at (h .words) x ≡ at (h₀ .words) x
   pub white : at (h .words) WHITE ≡ at (h₀ .words) WHITE
   pub most : j ≤ 6
   pub strings : j ≡ 0 → (at (h .words) PHASE ≡ 2) × (at (h .words) CURSOR-SLOT ≡ n)
@@ -67,6 +72,7 @@ pub stage-first : (l : Lay) (h : Heap) (v : Arenas l (h .words)) → at (h .word
 stage-first l h v p c = record {
   long = refl;
   first = λ x p. refl;
+  queue = λ x p. refl;
   white = refl;
   most = omega arith;
   strings = λ e. (p, c);
@@ -78,7 +84,7 @@ stage-first l h v p c = record {
 }
 
 -- At SweepString a single step is a batch of strings,
-strings-step : (l : Lay) (h : Heap) → at (h .words) PHASE ≡ 2 → singleStep l h .1 ≡ sweepStrings l h
+pub strings-step : (l : Lay) (h : Heap) → at (h .words) PHASE ≡ 2 → singleStep l h .1 ≡ sweepStrings l h
 unfolding singleStep
 strings-step l h e =
     ap (λ (x : Single × Heap). x .1)
@@ -88,7 +94,7 @@ strings-step l h e =
     (eq-yes (at (h .words) PHASE) 2 (Cost 10, sweepStrings l h) _ (Cost 10, sweepStrings l h) e refl))))
 
 -- at Sweep one of the others.
-others-step : (l : Lay) (h : Heap) → at (h .words) PHASE ≡ 3 → singleStep l h .1 ≡ sweepOthers l h
+pub others-step : (l : Lay) (h : Heap) → at (h .words) PHASE ≡ 3 → singleStep l h .1 ≡ sweepOthers l h
 unfolding singleStep
 others-step l h e =
     ap (λ (x : Single × Heap). x .1)
@@ -98,11 +104,11 @@ others-step l h e =
     (eq-no (at (h .words) PHASE) 2 (Cost 10, sweepStrings l h) _ (Cost 800, sweepOthers l h) (λ z. omega (arith, z, e))
     (eq-yes (at (h .words) PHASE) 3 (Cost 800, sweepOthers l h) _ (Cost 800, sweepOthers l h) e refl)))))
 
--- What a step writes beside the batch: the first 53 words, those from 73 on and the white stay.
+-- What a step writes beside the batch: the first 53 words, those from 72 on and the white stay.
 pub record Low (w u : List ℕ) : Type 0 where
   pub long : length u ≡ length w
   pub first : (x : ℕ) → x < 53 → at u x ≡ at w x
-  pub high : (x : ℕ) → 73 ≤ x → at u x ≡ at w x
+  pub high : (x : ℕ) → 72 ≤ x → at u x ≡ at w x
   pub white : at u WHITE ≡ at w WHITE
 
 -- Total and estimate are lowered.
@@ -196,20 +202,31 @@ module _ (l : Lay) (ok : Laid l) (a : Apart l) (r : Rows l) (h₀ : Heap) (v : A
       away : (k m : ℕ) (g : k ≤ 5) → j ≢ k → To l k m h₀ h (v k g .free) → To l k m h₀ (heap u (q .1 .bytes)) (v k g .free)
       away k m g d c =
           clean-same (v k g) (clean-same (v k g) c (swept-same l ok a r j k i g d old new n 80 (q .0 .next) (q .0 .freed) (does .seen) h (s .now i .keeps .free) (does .cleaned)))
-          (low-same l ok a r k g (q .1 .words) u (q .1 .bytes) (e .long) (e .high))
+          (low-same l ok a r k g (q .1 .words) u (q .1 .bytes) (e .long) (λ x p. e .high x (omega (arith, p))))
 
       -- The one at the cursor is swept up to where the batch ended.
       here : (g : j ≤ 5) → To l j (q .0 .next) h₀ (heap u (q .1 .bytes)) (v j g .free)
       here g =
           let c = sweep-does (arenaOf l j) old new n 80 h (room-after (s .long) (six-room l ok a r (h₀ .words) long j i)) (s .now g .keeps) (other-white new low high .0) low (omega (arith, high)) in
           clean-same (v j g) (clean-cleaned (v j g) (s .now g) (c .cleaned))
-          (low-same l ok a r j g (q .1 .words) u (q .1 .bytes) (e .long) (e .high))
+          (low-same l ok a r j g (q .1 .words) u (q .1 .bytes) (e .long) (λ x p. e .high x (omega (arith, p))))
 
       all-long : length u ≡ length (h₀ .words)
       all-long = e .long ∙ does .cleaned .long ∙ s .long
 
       all-first : (x : ℕ) → x < 53 → at u x ≡ at (h₀ .words) x
       all-first x p = e .first x p ∙ same-word x (omega (arith, p)) ∙ s .first x p
+
+      all-queue : (x : ℕ) → InQueue l x → at u x ≡ at (h₀ .words) x
+      all-queue x (inl p) = e .high x (omega (arith, p)) ∙ same-word x (omega (arith, p)) ∙ s .queue x (inl p)
+      all-queue x (inr p) =
+          e .high x (omega (arith, p .0, o .header, a))
+          ∙ does .cleaned .outside x (record {
+            header = inr (omega (arith, p .0, i, top-is l ok a r j i, o .header, a));
+            cells = inr (omega (arith, p .0, arena-lists l o j i, a));
+            bodies = inl (omega (arith, p .1, body-past l ok a r j i));
+          })
+          ∙ s .queue x (inr p)
 
       all-white : at u WHITE ≡ at (h₀ .words) WHITE
       all-white = e .white ∙ same-word WHITE (omega arith) ∙ s .white
@@ -224,6 +241,7 @@ module _ (l : Lay) (ok : Laid l) (a : Apart l) (r : Rows l) (h₀ : Heap) (v : A
         record {
           long = all-long;
           first = all-first;
+          queue = all-queue;
           white = all-white;
           most = omega (arith, i);
           strings = f;
@@ -248,6 +266,7 @@ module _ (l : Lay) (ok : Laid l) (a : Apart l) (r : Rows l) (h₀ : Heap) (v : A
         record {
           long = all-long;
           first = all-first;
+          queue = all-queue;
           white = all-white;
           most = omega (arith, i);
           strings = λ z. absurd (let y : ⊥ = omega (arith, z) in y);
@@ -425,6 +444,7 @@ module _ (l : Lay) (ok : Laid l) (a : Apart l) (r : Rows l) (h₀ : Heap) (v : A
       record {
         long = s .long;
         first = s .first;
+        queue = s .queue;
         white = s .white;
         most = omega arith;
         strings = λ z. absurd (let y : ⊥ = omega (arith, z) in y);
@@ -504,13 +524,14 @@ abbrev pub slotsOf : Lay → ℕ
 slotsOf l = l .strings .slots + l .tables .slots + l .functions .slots + l .upvalues .slots + l .userdata .slots + l .threads .slots
 
 -- The sweep: from a heap at SweepString, the cursor at the first slot, the six arenas well-formed. After m single steps the phase
--- is Finalize, first then; each arena is swept up to its end; settings, roots, damage mark and white stay.
+-- is Finalize, first then; each arena is swept up to its end; settings, roots, damage mark, queue and white stay.
 pub record SweepDone (l : Lay) (h : Heap) (v : Arenas l (h .words)) : Type 0 where
   pub steps : ℕ
   pub few : 80 * steps ≤ slotsOf l + 480
   pub finalize : at (singles l steps h .words) PHASE ≡ 4
   pub first : (i : ℕ) → i < steps → at (singles l i h .words) PHASE ≢ 4
   pub kept : (x : ℕ) → x < 53 → at (singles l steps h .words) x ≡ at (h .words) x
+  pub queue : (x : ℕ) → InQueue l x → at (singles l steps h .words) x ≡ at (h .words) x
   pub white : at (singles l steps h .words) WHITE ≡ at (h .words) WHITE
   pub arenas : (k : ℕ) (i : k ≤ 5) → To l k (fresh (arenaOf l k) (h .words)) h (singles l steps h) (v k i .free)
 
@@ -524,6 +545,7 @@ sweep-done l ok a r h v long low high p c =
       finalize = u .2 .ended refl;
       first = u .3;
       kept = u .2 .first;
+      queue = u .2 .queue;
       white = u .2 .white;
       arenas = λ k i. u .2 .done k i (omega (arith, i));
     }

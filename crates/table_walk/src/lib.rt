@@ -10,7 +10,6 @@ ghost use Prim.Native.Nat.{_+_, _*_, _≤_, _<_};
 ghost use lib.ListN.{length};
 ghost use Rattle.laid.specs.Laid.{Laid};
 ghost use Rattle.mark.specs.Words.{ops};
-ghost use Rattle.modes.specs.Modes.{weakMode};
 ghost use Rattle.table_walk.specs.Tables.{markUnless, markPair, markNode, markNodes, markArray, markEntries, listWeak, traverseTableAt, tableCost, traverseTable};
 
 // The value in words p to p + 2, unless it is held weakly.
@@ -106,20 +105,7 @@ fn list_weak(w: &mut [u32], l: Lay, m: Mode, r: TableRef)
     }
 }
 
-// The mode that a metatable gives. Most tables have none: that is told here, before a call is made.
-fn mode_of(w: &[u32], b: &[u8], l: Lay, mt: TableOr) -> Mode
-    requires { ⌜ Laid l ⌝ }
-    requires { ⌜ l .words ≤ length (now w) ⌝ }
-    requires { ⌜ l .bytes ≤ length (now b) ⌝ }
-    ensures { λ m. ⌜ m ≡ weakMode l mt (now (w .entry)) (now (b .entry)) ⌝ }
-{
-    match mt {
-        TableOr::Present(_) => modes::check_weak_mode(w, b, l, mt),
-        TableOr::Absent => modes::STRONG,
-    }
-}
-
-// The table of slot r.0 is black, its links are marked.
+// The table of slot r.0 is black, its links are marked. Most tables have no metatable, and nothing is weak then.
 fn traverse_table_at(w: &mut [u32], b: &[u8], l: Lay, r: TableRef)
     requires { ⌜ Laid l ⌝ }
     requires { ⌜ l .words ≤ length (now w) ⌝ }
@@ -130,11 +116,19 @@ fn traverse_table_at(w: &mut [u32], b: &[u8], l: Lay, r: TableRef)
     let i = base::wide(r.0);
     let p = record::body_of(w, l.tables, i);
     let mt = record::tables::table_meta(w, p);
-    let m = mode_of(w, b, l, mt);
-    arena::set_colour(w, l.tables, i, 4);
-    mark::mark_table_or(w, l, mt);
-    list_weak(w, l, m, r);
-    mark_entries(w, l, m, p);
+    match mt {
+        TableOr::Present(_) => {
+            let m = modes::check_weak_mode(w, b, l, mt);
+            arena::set_colour(w, l.tables, i, 4);
+            mark::mark_table_or(w, l, mt);
+            list_weak(w, l, m, r);
+            mark_entries(w, l, m, p);
+        }
+        TableOr::Absent => {
+            arena::set_colour(w, l.tables, i, 4);
+            mark_entries(w, l, modes::STRONG, p);
+        }
+    }
 }
 
 // 64 + 16 for each array place + 32 for each node.

@@ -200,11 +200,15 @@ pub enum Answer {
     Odd([u32; 4]),
 }
 
-fn joined(low: u32, high: u32) -> u64 {
+/// 64 bits from the low word and the high one.
+#[must_use]
+pub fn joined(low: u32, high: u32) -> u64 {
     u64::from(low) | u64::from(high) << 32
 }
 
-fn value(tag: u32, low: u32, high: u32) -> Option<Value> {
+/// The value that three words answer; none if no call answers them.
+#[must_use]
+pub fn value(tag: u32, low: u32, high: u32) -> Option<Value> {
     Some(match (tag, low, high) {
         (0, 0, 0) => Value::Nil,
         (1, 0, 0) => Value::Bool(false),

@@ -48,6 +48,7 @@ mod field;
 pub mod generate;
 mod handout;
 mod heap;
+pub mod heapscript;
 mod line;
 pub mod random;
 mod refs;

@@ -8,17 +8,17 @@ pub const STRIDE: usize = 2;
 pub const WIDTH: usize = 4;
 
 /// The exported functions: each has the arena's buffers and place, its numbers, and words for the
-/// answer where it gives any.
+/// answer where it gives any. `const` or `mut` says whether it may write to the bytes.
 // A slice passes as a pointer and a length. Nothing checks these declarations against the Rattle
 // source, so they are few, and `Ours` is compared with the source at every call.
 macro_rules! exported {
-    ($($visible:vis $method:ident: $name:ident($($number:ident),*) $(gives $out:ident)?;)*) => {
+    ($($visible:vis $method:ident: $name:ident $bytes:tt ($($number:ident),*) $(gives $out:ident)?;)*) => {
         mod exported {
             unsafe extern "C" {
                 $(pub fn $name(
                     w: *mut u32,
                     w_len: usize,
-                    b: *mut u8,
+                    b: *$bytes u8,
                     b_len: usize,
                     slots: usize,
                     stride: usize,
@@ -53,10 +53,10 @@ macro_rules! exported {
 }
 
 exported! {
-    arena_take: sieddesan_arena_take(colour, size) gives out;
-    pub free: sieddesan_arena_free(index, generation);
-    pub paint: sieddesan_arena_paint(index, generation, colour);
-    arena_sweep: sieddesan_arena_sweep(dead, white, start, most) gives out;
+    arena_take: sieddesan_arena_take const (colour, size) gives out;
+    pub free: sieddesan_arena_free mut (index, generation);
+    pub paint: sieddesan_arena_paint const (index, generation, colour);
+    arena_sweep: sieddesan_arena_sweep mut (dead, white, start, most) gives out;
 }
 
 /// What a sweep did, where the next one starts, and whether it reached the end.

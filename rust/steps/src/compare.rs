@@ -22,7 +22,7 @@ use std::fmt;
 use std::rc::Rc;
 
 /// What is no word and no byte.
-const ANSWER: &str = "answer";
+pub const ANSWER: &str = "answer";
 
 /// One thing that differs.
 #[derive(Clone, Debug, PartialEq, Eq)]
@@ -34,7 +34,8 @@ pub struct Found {
 }
 
 impl Found {
-    fn new(what: impl Into<String>, ours: impl ToString, source: impl ToString) -> Self {
+    #[must_use]
+    pub fn new(what: impl Into<String>, ours: impl ToString, source: impl ToString) -> Self {
         Self {
             what: what.into(),
             ours: ours.to_string(),
@@ -159,7 +160,8 @@ impl Compared {
 }
 
 /// The first place at which two buffers of one length differ.
-fn first<T: PartialEq>(a: &[T], b: &[T]) -> Option<usize> {
+#[must_use]
+pub fn first<T: PartialEq>(a: &[T], b: &[T]) -> Option<usize> {
     // One comparison of the whole is the fast way to "nowhere".
     if a == b {
         return None;
@@ -167,12 +169,15 @@ fn first<T: PartialEq>(a: &[T], b: &[T]) -> Option<usize> {
     a.iter().zip(b).position(|(a, b)| a != b)
 }
 
-fn differing<T: PartialEq>(a: &[T], b: &[T]) -> usize {
+/// At how many places they differ.
+#[must_use]
+pub fn differing<T: PartialEq>(a: &[T], b: &[T]) -> usize {
     a.iter().zip(b).filter(|(a, b)| a != b).count()
 }
 
 /// These sizes with no more slots than each arena has used.
-fn used(sizes: Sizes, words: &[u32]) -> Sizes {
+#[must_use]
+pub fn used(sizes: Sizes, words: &[u32]) -> Sizes {
     let mut all = <[u32; 10]>::from(sizes);
     for (k, size) in all.iter_mut().take(6).enumerate() {
         *size = words[header::ARENAS + 3 * k + 1];

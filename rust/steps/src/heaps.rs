@@ -50,13 +50,13 @@ impl fmt::Display for Report {
     }
 }
 
-/// Says which heap it was, should anything panic on it.
-struct Named(u64);
+/// Says which heap it was, should anything panic on it: who compares, and the heap's seed.
+pub struct Named(pub &'static str, pub u64);
 
 impl Drop for Named {
     fn drop(&mut self) {
         if panicking() {
-            eprintln!("steps: panicked on the heap of seed {}", self.0);
+            eprintln!("{}: panicked on the heap of seed {}", self.0, self.1);
         }
     }
 }
@@ -71,7 +71,7 @@ pub fn compared(seed: u64, steps: u64, engine: Maker) -> Result<(u64, Tally), Bo
     let mut heaps = 0;
     while tally.total() < steps {
         let seed = seed.wrapping_add(heaps);
-        let named = Named(seed);
+        let named = Named("steps", seed);
         let sizes = sizes(seed);
         let commands = Box::new(Generator::new(seed, LINES));
         let found = run(sizes, commands, engine(sizes), steps - tally.total());

@@ -40,46 +40,52 @@ impl Driver for Listed {
     fn answer(&mut self, _: &Oracle, _: &Answer) {}
 }
 
+/// A list of commands as a driver.
+#[must_use]
+pub fn listed(script: Vec<Command>) -> Box<dyn Driver> {
+    Box::new(Listed(script.into_iter()))
+}
+
+/// What came of a list of commands: those given, and how the last of them differs.
+pub type Outcome = (Vec<Command>, Option<Difference>);
+
+/// Runs a list of commands on a new heap of these sizes and compares.
+pub type Replay<'a> = &'a dyn Fn(Sizes, Vec<Command>) -> Outcome;
+
 /// Runs a list of commands on a new heap and compares every step.
 #[must_use]
 pub fn replayed(sizes: Sizes, script: Vec<Command>, engine: Maker) -> Run {
-    let commands = Box::new(Listed(script.into_iter()));
-    run(sizes, commands, engine(sizes), u64::MAX)
+    run(sizes, listed(script), engine(sizes), u64::MAX)
 }
 
-/// The same kind of difference from this script, if it shows one: the script up to there.
-fn shows(kind: &str, sizes: Sizes, script: Vec<Command>, engine: Maker) -> Option<Shrunk> {
-    let Run {
-        script, difference, ..
-    } = replayed(sizes, script, engine);
-    let difference = difference.filter(|d| d.kind() == kind)?;
+/// The difference that this script shows, if it shows one: the script up to there.
+fn shown(sizes: Sizes, script: Vec<Command>, replay: Replay) -> Option<Shrunk> {
+    let (script, difference) = replay(sizes, script);
     Some(Shrunk {
         sizes,
         script,
-        difference,
+        difference: difference?,
     })
 }
 
+/// The same if it is of this kind.
+fn shows(kind: &str, sizes: Sizes, script: Vec<Command>, replay: Replay) -> Option<Shrunk> {
+    shown(sizes, script, replay).filter(|shrunk| shrunk.difference.kind() == kind)
+}
+
 /// The same with sizes no larger than what was used, if the difference stays.
-fn narrowed(kind: &str, shrunk: Shrunk, engine: Maker) -> Shrunk {
+fn narrowed(kind: &str, shrunk: Shrunk, replay: Replay) -> Shrunk {
     let used = shrunk.difference.used;
-    shows(kind, used, shrunk.script.clone(), engine).unwrap_or(shrunk)
+    shows(kind, used, shrunk.script.clone(), replay).unwrap_or(shrunk)
 }
 
 /// Drops commands, first many at a time, in the end one at a time, as long as the difference stays.
 /// None if the script shows no difference at all.
 #[must_use]
-pub fn shrunk(sizes: Sizes, script: Vec<Command>, engine: Maker) -> Option<Shrunk> {
-    let found = replayed(sizes, script, engine);
-    let difference = found.difference?;
-    let kind = difference.kind();
-    let script = found.script;
-    let first = Shrunk {
-        sizes,
-        script,
-        difference,
-    };
-    let mut best = narrowed(&kind, first, engine);
+pub fn shrunk_by(sizes: Sizes, script: Vec<Command>, replay: Replay) -> Option<Shrunk> {
+    let first = shown(sizes, script, replay)?;
+    let kind = first.difference.kind();
+    let mut best = narrowed(&kind, first, replay);
     let mut piece = best.script.len();
     loop {
         let before = best.script.len();
@@ -88,14 +94,24 @@ pub fn shrunk(sizes: Sizes, script: Vec<Command>, engine: Maker) -> Option<Shrun
             let start = end.saturating_sub(piece);
             let mut fewer = best.script.clone();
             fewer.drain(start..end);
-            if let Some(shorter) = shows(&kind, best.sizes, fewer, engine) {
+            if let Some(shorter) = shows(&kind, best.sizes, fewer, replay) {
                 best = shorter;
             }
             end = start.min(best.script.len());
         }
         if piece <= 1 && best.script.len() == before {
-            return Some(narrowed(&kind, best, engine));
+            return Some(narrowed(&kind, best, replay));
         }
         piece = piece.div_ceil(2);
     }
+}
+
+/// The same for the steps of an engine.
+#[must_use]
+pub fn shrunk(sizes: Sizes, script: Vec<Command>, engine: Maker) -> Option<Shrunk> {
+    let replay = |sizes, script| {
+        let run = replayed(sizes, script, engine);
+        (run.script, run.difference)
+    };
+    shrunk_by(sizes, script, &replay)
 }

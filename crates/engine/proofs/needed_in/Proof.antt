@@ -18,14 +18,14 @@ returns : tie.Need-returns
 unfolding neededIn neededOf
 returns c = rw (← c .before .before .before .before .plan .ensures .0, c .before .before .l .given .1) (lt-yes _ _ _ _ _ (omega arith) refl)
 
-cast-tell : tie.Need-cast-tell
-cast-tell c = omega (arith, planned-small _ _ (sym (c .before .before .before .before .l .given .1) ∙ c .before .before .before .before .before .before .plan .ensures .0))
+cast-put-two : tie.Need-cast-put-two
+cast-put-two c = omega (arith, planned-small _ _ (sym (c .before .before .before .before .l .given .1) ∙ c .before .before .before .before .before .before .plan .ensures .0))
 
-cast-tell-2 : tie.Need-cast-tell-2
-cast-tell-2 c = omega (arith, planned-small _ _ (sym (c .before .before .before .before .before .l .given .1) ∙ c .before .before .before .before .before .before .before .plan .ensures .0))
+cast-put-two-2 : tie.Need-cast-put-two-2
+cast-put-two-2 c = omega (arith, planned-small _ _ (sym (c .before .before .before .before .before .l .given .1) ∙ c .before .before .before .before .before .before .before .plan .ensures .0))
 
-tell-requires : tie.Need-tell-requires
-tell-requires c κs = search needs
+put-two-requires : tie.Need-put-two-requires
+put-two-requires c κs = search needs
 
 enum-known-n : tie.Need-enum-known-n
 enum-known-n c = search needs
@@ -48,9 +48,9 @@ needed-in-spec =
     plan-requires
     enum-known-l
     returns
-    cast-tell
-    cast-tell-2
-    tell-requires
+    cast-put-two
+    cast-put-two-2
+    put-two-requires
     enum-known-n
     same-length
     returns-2

@@ -1,8 +1,7 @@
 -- `make_protos::nest_one` meets its contract: the callees' equations joined. Assumes nothing.
 use native.Mathlib.Omega.{arith}
 use borrow.Author.Needs.{needs}
-use Rattle.laid.specs.Laid.{parts-room}
-use Rattle.sound.proofs.Laws.{protos-most}
+use Rattle.laid.specs.Laid.{parts-room, protos-most}
 use Rattle.make_protos.specs.Making.{Below, nestOne}
 use Rattle.make_protos.proofs.nest_one.Statement.{statement}
 use Rattle.make_protos.proofs.nest_one.Tie as tie

@@ -5,8 +5,7 @@ use lib.ListN.{length}
 use borrow.Author.Needs.{needs}
 use borrow.Author.Tests.{not-false, not-true}
 use Rattle.base.specs.Ways.{le-no, le-yes}
-use Rattle.laid.specs.Laid.{parts-room}
-use Rattle.sound.proofs.Laws.{protos-most}
+use Rattle.laid.specs.Laid.{parts-room, protos-most}
 use Rattle.make_protos.specs.Making.{lengths-most, nestable-below, protoIn}
 use Rattle.make_protos.proofs.proto_in.Statement.{statement}
 use Rattle.make_protos.proofs.proto_in.Tie as tie

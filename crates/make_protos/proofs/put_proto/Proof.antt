@@ -1,8 +1,7 @@
 -- `make_protos::put_proto` meets its contract: the callees' equations joined. Assumes nothing.
 use native.Mathlib.Omega.{arith}
 use borrow.Author.Needs.{needs}
-use Rattle.laid.specs.Laid.{parts-room}
-use Rattle.sound.proofs.Laws.{protos-most}
+use Rattle.laid.specs.Laid.{parts-room, protos-most}
 use Rattle.make_protos.specs.Making.{putProto}
 use Rattle.make_protos.proofs.put_proto.Statement.{statement}
 use Rattle.make_protos.proofs.put_proto.Tie as tie

@@ -1,8 +1,10 @@
--- `mark::mark_place` meets its contract: a tag below 4 marks nothing, 5 marks a table, and any other is left to the callee. Assumes nothing.
+-- `mark::mark_place` meets its contract: a tag below 4 marks nothing, a table that is not white is left, and any other is left to the callee. Assumes nothing.
+use borrow.Author.Tests.{not-true}
 use borrow.Author.Needs.{needs}
 use Rattle.base.specs.Ways.{ifEq}
 use Rattle.value.specs.Values.{valueOf}
-use Rattle.mark.specs.Marking.{markValue, markValueAt}
+use Rattle.laid.specs.Laid.{tables-room}
+use Rattle.mark.specs.Marking.{markTable, markValue, markValueAt}
 use Rattle.mark.proofs.Laws.{plain-low}
 use Rattle.mark.proofs.mark_place.Statement.{statement}
 use Rattle.mark.proofs.mark_place.Tie as tie
@@ -29,15 +31,18 @@ add-get-2 c = search needs
 get-requires-3 : tie.Need-get-requires-3
 get-requires-3 c κs = search needs
 
-mark-table-requires : tie.Need-mark-table-requires
-mark-table-requires c κs = search needs
+shade-requires : tie.Need-shade-requires
+shade-requires c κs = tables-room _ _ (c .before .before .before .before .before .before .before .before .pre .0) (c .before .before .before .before .before .before .before .before .pre .1 .0)
+
+is-white-requires : tie.Need-is-white-requires
+is-white-requires c κs = search needs
 
 same-length-2 : tie.Need-same-length-2
 same-length-2 c = search needs
 
 returns-2 : tie.Need-returns-2
-unfolding markValueAt markValue valueOf ifEq
-returns-2 c = rw (← c .before .before .before .before .before .before .before .before .before .before .get .ensures, c .before .before .before .before .before .before .before .before .if2 .taken, ← c .before .before .before .before .before .get2 .ensures, ← c .before .before .before .get3 .ensures) (c .before .before .mark-table .ensures)
+unfolding markValueAt markValue valueOf ifEq markTable
+returns-2 c = rw (← c .before .before .before .before .before .before .before .before .get .ensures, c .before .before .before .before .before .before .if2 .taken, ← c .before .before .before .before .get2 .ensures, ← c .before .before .before .get3 .ensures, ← c .before .before .shade .ensures, ← c .before .is-white .ensures, not-true (c .before .is-white .result) (c .if3 .taken))
 
 mark-value-at-requires : tie.Need-mark-value-at-requires
 mark-value-at-requires c κs = search needs
@@ -59,7 +64,8 @@ mark-place-spec =
     get-requires-2
     add-get-2
     get-requires-3
-    mark-table-requires
+    shade-requires
+    is-white-requires
     same-length-2
     returns-2
     mark-value-at-requires

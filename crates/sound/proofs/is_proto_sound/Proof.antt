@@ -1,6 +1,7 @@
 -- `sound::is_proto_sound` meets its contract: none is seen yet. Assumes nothing.
 use borrow.Author.Needs.{needs}
-use Rattle.sound.proofs.Laws.{known-none, protos-most}
+use Rattle.laid.specs.Laid.{protos-most}
+use Rattle.sound.proofs.Laws.{known-none}
 use Rattle.sound.proofs.is_proto_sound.Statement.{statement}
 use Rattle.sound.proofs.is_proto_sound.Tie as tie
 

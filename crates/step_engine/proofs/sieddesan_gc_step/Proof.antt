@@ -1,16 +1,13 @@
 -- `step_engine::sieddesan_gc_step` meets its contract: each way by its test. Assumes nothing.
 use mir.Syntax.{w64}
 use mir.ValLaws.{toZ-ofZ}
-use mathlib.Core.Path.{refl}
 use borrow.Author.Needs.{needs}
-use Rattle.base.specs.Ways.{lt-yes, lt-no}
-use Rattle.step_engine.specs.Exports.{onStep}
+use Rattle.told.specs.Answers.{lent-short, lent-told}
 use Rattle.step_engine.proofs.sieddesan_gc_step.Statement.{statement}
 use Rattle.step_engine.proofs.sieddesan_gc_step.Tie as tie
 
 returns : tie.Need-returns
-unfolding onStep
-returns c = lt-yes _ _ _ _ _ (c .if1 .taken) refl
+returns c = lent-short _ _ _ _ _ (c .if1 .taken)
 
 gc-step-requires : tie.Need-gc-step-requires
 gc-step-requires c κs = search needs
@@ -28,8 +25,7 @@ same-length-3 : tie.Need-same-length-3
 same-length-3 c = search needs
 
 returns-2 : tie.Need-returns-2
-unfolding onStep
-returns-2 c = lt-no _ _ _ _ _ (c .before .before .before .before .before .before .before .before .before .before .before .if1 .left) (rw (← (rw (toZ-ofZ w64 (c .before .before .before .before .before .before .before .before .before .before .before .before .before .before .before .args .budget) (c .before .before .before .before .before .before .before .before .before .before .before .before .before .before .before .fits .budget)) at (c .before .before .before .before .before .before .before .before .gc-step .ensures)), ← c .before .before .tell .ensures))
+returns-2 c = lent-told _ _ _ _ _ _ _ _ _ (c .before .before .before .before .before .before .before .before .before .before .before .if1 .left) (rw (toZ-ofZ w64 (c .before .before .before .before .before .before .before .before .before .before .before .before .before .before .before .args .budget) (c .before .before .before .before .before .before .before .before .before .before .before .before .before .before .before .fits .budget)) at (c .before .before .before .before .before .before .before .before .gc-step .ensures)) (c .before .before .tell .ensures)
 
 pub sieddesan-gc-step-spec : {M : Type 1} → statement M
 sieddesan-gc-step-spec =

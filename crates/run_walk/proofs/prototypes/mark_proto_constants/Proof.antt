@@ -2,7 +2,8 @@
 use mathlib.Core.Path.{refl, ap}
 use Rattle.base.specs.Ways.{le-yes, le-no, eq-yes, eq-no}
 use Rattle.run_walk.specs.Prototypes.{zeros, markProtoConstants}
-use Rattle.run_walk.proofs.Laws.{parts-in, protos-most}
+use Rattle.laid.specs.Laid.{protos-most}
+use Rattle.run_walk.proofs.Laws.{parts-in}
 use Rattle.run_walk.proofs.prototypes.mark_proto_constants.Statement.{statement}
 use Rattle.run_walk.proofs.prototypes.mark_proto_constants.Tie as tie
 

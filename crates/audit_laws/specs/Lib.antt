@@ -1,0 +1,4 @@
+pub mod Tests
+pub mod Walks
+pub mod Handles
+pub mod Says

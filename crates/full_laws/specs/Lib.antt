@@ -1,0 +1,4 @@
+pub mod Calm
+pub mod Idle
+pub mod Full
+pub mod Finishes

@@ -1,0 +1,3 @@
+pub mod Fields
+pub mod Lines
+pub mod Laws

@@ -1,0 +1,5 @@
+pub mod State
+pub mod Plains
+pub mod Rooms
+pub mod Takes
+pub mod Barriers

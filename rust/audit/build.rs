@@ -1,0 +1,5 @@
+//! Links the proved audit.
+
+fn main() {
+    proved::link("audit_engine");
+}

@@ -1,0 +1,13 @@
+//! The audit of the proved heap, beside the oracle's on the heaps that calls make, and beside a
+//! [`direct`] reading of the words where they are damaged.
+//!
+//! `rt staticlib audit_engine` at the repository's root writes the library that this crate links.
+
+mod damage;
+pub mod direct;
+mod ours;
+mod states;
+
+pub use damage::{Damage, HARMLESS, damaged_chains, damaged_word};
+pub use ours::{audit, audit_in};
+pub use states::{State, states};
