@@ -1,19 +1,20 @@
 // The atomic phase (document 01; the source's atomic): the main thread once more, grayagain in order, all gray; separation,
 // with what the due userdata reach; the white flips; weak tables; then the sweep begins.
-use layout::Lay;
+use layout::Sizes;
 use lists::Item;
 ghost use mathlib.Core.Path.{_≡_};
 ghost use Prim.Native.Nat.{_+_, _≤_, _<_};
 ghost use lib.ListN.{length};
+ghost use Rattle.layout.specs.Layout.{layOf};
 ghost use Rattle.laid.specs.Laid.{Laid};
 ghost use Rattle.atomic.specs.Atomic.{againItem, againListed, againAll, marked, finished, flipped, begun, atomic};
 
 // An item is traversed once more, a thread without its hook. The main thread was followed before.
-fn again_item(w: &mut [u32], b: &[u8], l: Lay, x: Item)
-    requires { ⌜ Laid l ⌝ }
-    requires { ⌜ l .words ≤ length (now w) ⌝ }
-    requires { ⌜ l .bytes ≤ length (now b) ⌝ }
-    ensures { λ _. ⌜ now (w .exit) ≡ againItem l (now (b .entry)) x (now (w .entry)) ⌝ }
+fn again_item(w: &mut [u32], b: &[u8], l: Sizes, x: Item)
+    requires { ⌜ Laid (layOf l) ⌝ }
+    requires { ⌜ layOf l .words ≤ length (now w) ⌝ }
+    requires { ⌜ layOf l .bytes ≤ length (now b) ⌝ }
+    ensures { λ _. ⌜ now (w .exit) ≡ againItem (layOf l) (now (b .entry)) x (now (w .entry)) ⌝ }
 {
     match x {
         Item::Thread(r) => run_walk::threads::retraverse_thread(w, l, r),
@@ -23,24 +24,24 @@ fn again_item(w: &mut [u32], b: &[u8], l: Lay, x: Item)
     }
 }
 
-fn again_listed(w: &mut [u32], b: &[u8], l: Lay, k: usize)
-    requires { ⌜ Laid l ⌝ }
-    requires { ⌜ l .words ≤ length (now w) ⌝ }
-    requires { ⌜ l .bytes ≤ length (now b) ⌝ }
-    ensures { λ _. ⌜ now (w .exit) ≡ againListed l (now (b .entry)) k (now (w .entry)) ⌝ }
+fn again_listed(w: &mut [u32], b: &[u8], l: Sizes, k: usize)
+    requires { ⌜ Laid (layOf l) ⌝ }
+    requires { ⌜ layOf l .words ≤ length (now w) ⌝ }
+    requires { ⌜ layOf l .bytes ≤ length (now b) ⌝ }
+    ensures { λ _. ⌜ now (w .exit) ≡ againListed (layOf l) (now (b .entry)) k (now (w .entry)) ⌝ }
 {
-    let x = lists::item_at(w, l.grayagain, k);
+    let x = lists::item_at(w, layout::grayagain_of(l), k);
     again_item(w, b, l, x);
 }
 
 // Grayagain in order. Nothing is put on it meanwhile; it is empty when the propagation begins that may list threads again.
-fn again_all(w: &mut [u32], b: &[u8], l: Lay)
-    requires { ⌜ Laid l ⌝ }
-    requires { ⌜ l .words ≤ length (now w) ⌝ }
-    requires { ⌜ l .bytes ≤ length (now b) ⌝ }
-    ensures { λ _. ⌜ now (w .exit) ≡ againAll l (now (b .entry)) (now (w .entry)) ⌝ }
+fn again_all(w: &mut [u32], b: &[u8], l: Sizes)
+    requires { ⌜ Laid (layOf l) ⌝ }
+    requires { ⌜ layOf l .words ≤ length (now w) ⌝ }
+    requires { ⌜ layOf l .bytes ≤ length (now b) ⌝ }
+    ensures { λ _. ⌜ now (w .exit) ≡ againAll (layOf l) (now (b .entry)) (now (w .entry)) ⌝ }
 {
-    let n = lists::length_of(w, l.grayagain);
+    let n = lists::length_of(w, layout::grayagain_of(l));
     let mut k: usize = 0;
     while k < n {
         again_listed(w, b, l, k);
@@ -49,24 +50,24 @@ fn again_all(w: &mut [u32], b: &[u8], l: Lay)
 }
 
 // All that is reached is marked.
-fn mark_all(w: &mut [u32], b: &[u8], l: Lay)
-    requires { ⌜ Laid l ⌝ }
-    requires { ⌜ l .words ≤ length (now w) ⌝ }
-    requires { ⌜ l .bytes ≤ length (now b) ⌝ }
-    ensures { λ _. ⌜ now (w .exit) ≡ marked l (now (b .entry)) (now (w .entry)) ⌝ }
+fn mark_all(w: &mut [u32], b: &[u8], l: Sizes)
+    requires { ⌜ Laid (layOf l) ⌝ }
+    requires { ⌜ layOf l .words ≤ length (now w) ⌝ }
+    requires { ⌜ layOf l .bytes ≤ length (now b) ⌝ }
+    ensures { λ _. ⌜ now (w .exit) ≡ marked (layOf l) (now (b .entry)) (now (w .entry)) ⌝ }
 {
     run_walk::main_thread::mark_main(w, l);
     again_all(w, b, l);
-    lists::clear_list(w, l.grayagain);
+    lists::clear_list(w, layout::grayagain_of(l));
     propagate::propagate_all(w, b, l);
 }
 
 // Due userdata and what they reach: how many there are.
-fn finish_marking(w: &mut [u32], b: &[u8], l: Lay) -> usize
-    requires { ⌜ Laid l ⌝ }
-    requires { ⌜ l .words ≤ length (now w) ⌝ }
-    requires { ⌜ l .bytes ≤ length (now b) ⌝ }
-    ensures { λ n. ⌜ ((n, now (w .exit)) ≡ finished l (now (b .entry)) (now (w .entry))) × (n ≤ 4096) ⌝ }
+fn finish_marking(w: &mut [u32], b: &[u8], l: Sizes) -> usize
+    requires { ⌜ Laid (layOf l) ⌝ }
+    requires { ⌜ layOf l .words ≤ length (now w) ⌝ }
+    requires { ⌜ layOf l .bytes ≤ length (now b) ⌝ }
+    ensures { λ n. ⌜ ((n, now (w .exit)) ≡ finished (layOf l) (now (b .entry)) (now (w .entry))) × (n ≤ 4096) ⌝ }
 {
     let n = separate::separate_userdata(w, l);
     separate::mark_tmudata(w, l);
@@ -75,11 +76,11 @@ fn finish_marking(w: &mut [u32], b: &[u8], l: Lay) -> usize
 }
 
 // The white flips, and the weak tables are cleared by it.
-fn flip(w: &mut [u32], b: &[u8], l: Lay)
-    requires { ⌜ Laid l ⌝ }
-    requires { ⌜ l .words ≤ length (now w) ⌝ }
-    requires { ⌜ l .bytes ≤ length (now b) ⌝ }
-    ensures { λ _. ⌜ now (w .exit) ≡ flipped l (now (b .entry)) (now (w .entry)) ⌝ }
+fn flip(w: &mut [u32], b: &[u8], l: Sizes)
+    requires { ⌜ Laid (layOf l) ⌝ }
+    requires { ⌜ layOf l .words ≤ length (now w) ⌝ }
+    requires { ⌜ layOf l .bytes ≤ length (now b) ⌝ }
+    ensures { λ _. ⌜ now (w .exit) ≡ flipped (layOf l) (now (b .entry)) (now (w .entry)) ⌝ }
 {
     let old = base::get(w, layout::WHITE);
     let white = mark::other_white(old);
@@ -101,11 +102,11 @@ fn begin_sweep(w: &mut [u32], n: usize)
 }
 
 // The whole step.
-pub fn atomic(w: &mut [u32], b: &[u8], l: Lay)
-    requires { ⌜ Laid l ⌝ }
-    requires { ⌜ l .words ≤ length (now w) ⌝ }
-    requires { ⌜ l .bytes ≤ length (now b) ⌝ }
-    ensures { λ _. ⌜ now (w .exit) ≡ atomic l (now (b .entry)) (now (w .entry)) ⌝ }
+pub fn atomic(w: &mut [u32], b: &[u8], l: Sizes)
+    requires { ⌜ Laid (layOf l) ⌝ }
+    requires { ⌜ layOf l .words ≤ length (now w) ⌝ }
+    requires { ⌜ layOf l .bytes ≤ length (now b) ⌝ }
+    ensures { λ _. ⌜ now (w .exit) ≡ atomic (layOf l) (now (b .entry)) (now (w .entry)) ⌝ }
 {
     mark_all(w, b, l);
     let n = finish_marking(w, b, l);

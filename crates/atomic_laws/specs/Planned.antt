@@ -17,7 +17,8 @@ use Rattle.lists.specs.Lists.{damage, lengthOf}
 use Rattle.mark.specs.Ops.{Ref}
 use Rattle.mark.specs.Words.{colourW}
 use Rattle.atomic.specs.Atomic.{marked, atomic}
-use Rattle.mark_laws.specs.Apart.{apart, laid-of}
+use Rattle.laid.specs.Laid.{laid-of}
+use Rattle.mark_laws.specs.Apart.{apart}
 use Rattle.room_laws.specs.Tallies.{ample}
 use Rattle.room_laws.specs.Cycles.{Propagating}
 use Rattle.room_laws.specs.Atomics.{cycle-whole}

@@ -1,11 +1,12 @@
 // The audit (document 01, at the end of 'Steps and pacing'): a heap between collections, looked over. It gives 1 and 8 first,
 // says yes or no, and changes nothing.
-use layout::Lay;
 use layout::List;
 use layout::Opened;
+use layout::Sizes;
 ghost use mathlib.Core.Path.{_≡_};
 ghost use Prim.Native.Nat.{_≤_, _<_};
 ghost use lib.ListN.{length};
+ghost use Rattle.layout.specs.Layout.{layOf};
 ghost use Rattle.base.specs.Heap.{heap};
 ghost use Rattle.laid.specs.Laid.{Laid};
 ghost use Rattle.audit.specs.Audit.{isWithin, listsWithin, chainsHold, auditOf, said, audit};
@@ -27,32 +28,35 @@ fn is_within(w: &[u32], b: List) -> bool
     base::wide(w[p]) <= room
 }
 
-fn lists_within(w: &[u32], l: Lay) -> bool
-    requires { ⌜ Laid l ⌝ }
-    requires { ⌜ l .words ≤ length (now w) ⌝ }
-    ensures { λ r. ⌜ r ≡ listsWithin l (now (w .entry)) ⌝ }
+fn lists_within(w: &[u32], l: Sizes) -> bool
+    requires { ⌜ Laid (layOf l) ⌝ }
+    requires { ⌜ layOf l .words ≤ length (now w) ⌝ }
+    ensures { λ r. ⌜ r ≡ listsWithin (layOf l) (now (w .entry)) ⌝ }
 {
-    is_within(w, l.gray) & is_within(w, l.grayagain) & is_within(w, l.weak) & is_within(w, l.queue)
+    is_within(w, layout::gray_of(l))
+        & is_within(w, layout::grayagain_of(l))
+        & is_within(w, layout::weak_of(l))
+        & is_within(w, layout::queue_of(l))
 }
 
-fn chains_hold(w: &[u32], l: Lay) -> bool
-    requires { ⌜ Laid l ⌝ }
-    requires { ⌜ l .words ≤ length (now w) ⌝ }
-    ensures { λ r. ⌜ r ≡ chainsHold l (now (w .entry)) ⌝ }
+fn chains_hold(w: &[u32], l: Sizes) -> bool
+    requires { ⌜ Laid (layOf l) ⌝ }
+    requires { ⌜ layOf l .words ≤ length (now w) ⌝ }
+    ensures { λ r. ⌜ r ≡ chainsHold (layOf l) (now (w .entry)) ⌝ }
 {
-    chains::chain_holds(w, l.strings)
-        & chains::chain_holds(w, l.tables)
-        & chains::chain_holds(w, l.functions)
-        & chains::chain_holds(w, l.upvalues)
-        & chains::chain_holds(w, l.userdata)
-        & chains::chain_holds(w, l.threads)
+    chains::chain_holds(w, layout::strings_of(l))
+        & chains::chain_holds(w, layout::tables_of(l))
+        & chains::chain_holds(w, layout::functions_of(l))
+        & chains::chain_holds(w, layout::upvalues_of(l))
+        & chains::chain_holds(w, layout::userdata_of(l))
+        & chains::chain_holds(w, layout::threads_of(l))
 }
 
 // The four questions, in the document's order.
-fn passes(w: &[u32], l: Lay) -> bool
-    requires { ⌜ Laid l ⌝ }
-    requires { ⌜ l .words ≤ length (now w) ⌝ }
-    ensures { λ r. ⌜ r ≡ auditOf l (now (w .entry)) ⌝ }
+fn passes(w: &[u32], l: Sizes) -> bool
+    requires { ⌜ Laid (layOf l) ⌝ }
+    requires { ⌜ layOf l .words ≤ length (now w) ⌝ }
+    ensures { λ r. ⌜ r ≡ auditOf (layOf l) (now (w .entry)) ⌝ }
 {
     if w[layout::PHASE] != 0 {
         return false;

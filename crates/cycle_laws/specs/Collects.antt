@@ -18,14 +18,14 @@ use Rattle.layout.specs.Sizes.{SizesOk}
 use Rattle.layout.specs.Layout.{layOf}
 use Rattle.layout.specs.Places.{PHASE, WHITE}
 use Rattle.lists.specs.Lists.{damage, lengthOf}
-use Rattle.laid.specs.Laid.{Laid}
+use Rattle.laid.specs.Laid.{Laid, laid-of}
 use Rattle.mark.specs.Ops.{Ref}
 use Rattle.mark.specs.Words.{colourW}
 use Rattle.propagate.specs.Propagation.{rounds}
 use Rattle.atomic.specs.Atomic.{marked, atomic}
 use Rattle.step.specs.Step.{startCycle}
 use Rattle.link_laws.specs.Roots.{root-links-same}
-use Rattle.mark_laws.specs.Apart.{Apart, apart, laid-of, Order, order}
+use Rattle.mark_laws.specs.Apart.{Apart, apart, Order, order}
 use Rattle.mark_laws.specs.Changes.{tops}
 use Rattle.room_laws.specs.Tallies.{Ample, ample}
 use Rattle.room_laws.specs.Payments.{whole-long}

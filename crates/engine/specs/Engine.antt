@@ -11,7 +11,6 @@ use Rattle.layout.specs.Sizes.{SizesOk, sizes-fit-ok}
 use Rattle.layout.specs.Layout.{layOf, planned, neededOf}
 use Rattle.layout.specs.Fits.{planned-fits}
 use Rattle.layout.specs.declared.Sizes.{Sizes}
-use Rattle.layout.specs.declared.Lay.{Lay}
 use Rattle.layout.specs.declared.Opened.the-variants.{Fits}
 use Rattle.layout.specs.declared.Needs.{Needs}
 use Rattle.layout.specs.declared.Needs.the-variants as needing
@@ -63,5 +62,5 @@ small : (s : Sizes) → SizesOk s → (layOf s .words < 2 ^ 32) × (layOf s .byt
 unfolding layOf
 small s h = (omega arith, omega arith)
 
-pub planned-small : (s : Sizes) (l : Lay) → Fits l ≡ planned s → (l .words < 2 ^ 32) × (l .bytes < 2 ^ 32)
-planned-small s l p = rw (planned-fits s l p .1) (small s (sizes-fit-ok s (planned-fits s l p .0)))
+pub planned-small : (s z : Sizes) → Fits z ≡ planned s → (layOf z .words < 2 ^ 32) × (layOf z .bytes < 2 ^ 32)
+planned-small s z p = rw (planned-fits s z p .1) (small s (sizes-fit-ok s (planned-fits s z p .0)))

@@ -45,11 +45,11 @@ fn needed_in(s: Sizes, out: &mut [u32]) -> u32
     ensures { λ r. ⌜ (r, now (out .exit)) ≡ neededIn s (now (out .entry)) ⌝ }
 {
     match layout::plan(s) {
-        Opened::Fits(l) => {
+        Opened::Fits(z) => {
             if out.len() < 2 {
                 return 1;
             }
-            told::put_two(out, l.words as u32, l.bytes as u32);
+            told::put_two(out, layout::words_of(z) as u32, layout::bytes_of(z) as u32);
             0
         }
         Opened::Refused(n) => n,

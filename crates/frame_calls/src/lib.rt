@@ -1,23 +1,24 @@
 // The calls that change the frames (document 01, module 5). Each gives 1 and 8 first, then 4, and changes nothing where it
 // refuses.
 use given::Served;
-use layout::Lay;
 use layout::Opened;
+use layout::Sizes;
 ghost use mathlib.Core.Path.{_≡_};
 ghost use Prim.Native.Nat.{_≤_};
 ghost use lib.ListN.{length};
+ghost use Rattle.layout.specs.Layout.{layOf};
 ghost use Rattle.base.specs.Heap.{heap};
 ghost use Rattle.laid.specs.Laid.{Laid};
 ghost use Rattle.frame_calls.specs.FrameCalls.{setFrameIn, setFrame, setCiIn, setCi};
 
-fn set_frame_in(w: &mut [u32], l: Lay, i: u32, n: u32) -> Served
-    requires { ⌜ Laid l ⌝ }
-    requires { ⌜ l .words ≤ length (now w) ⌝ }
-    ensures { λ r. ⌜ (r, now (w .exit)) ≡ setFrameIn i n l (now (w .entry)) ⌝ }
+fn set_frame_in(w: &mut [u32], l: Sizes, i: u32, n: u32) -> Served
+    requires { ⌜ Laid (layOf l) ⌝ }
+    requires { ⌜ layOf l .words ≤ length (now w) ⌝ }
+    ensures { λ r. ⌜ (r, now (w .exit)) ≡ setFrameIn i n (layOf l) (now (w .entry)) ⌝ }
 {
     let k = base::wide(i);
     let f = base::wide(n);
-    if l.frames.room <= k {
+    if l.frames <= k {
         return Served::Refused(4);
     }
     if 256 < f {
@@ -37,13 +38,13 @@ pub fn set_frame(w: &mut [u32], b: &[u8], i: u32, n: u32) -> Served
     }
 }
 
-fn set_ci_in(w: &mut [u32], l: Lay, i: u32) -> Served
-    requires { ⌜ Laid l ⌝ }
-    requires { ⌜ l .words ≤ length (now w) ⌝ }
-    ensures { λ r. ⌜ (r, now (w .exit)) ≡ setCiIn i l (now (w .entry)) ⌝ }
+fn set_ci_in(w: &mut [u32], l: Sizes, i: u32) -> Served
+    requires { ⌜ Laid (layOf l) ⌝ }
+    requires { ⌜ layOf l .words ≤ length (now w) ⌝ }
+    ensures { λ r. ⌜ (r, now (w .exit)) ≡ setCiIn i (layOf l) (now (w .entry)) ⌝ }
 {
     let k = base::wide(i);
-    if l.frames.room <= k {
+    if l.frames <= k {
         return Served::Refused(4);
     }
     main_record::set_main_ci(w, k);

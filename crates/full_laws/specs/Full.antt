@@ -29,10 +29,10 @@ use Rattle.layout.specs.Places.{PHASE, WHITE, CURSOR-ARENA, CURSOR-SLOT, TOTAL,
 use Rattle.lists.specs.declared.Popped.{Popped}
 use Rattle.lists.specs.Lists.{lengthOf}
 use Rattle.lists.specs.Laws.{pop-none}
-use Rattle.laid.specs.Laid.{Laid}
+use Rattle.laid.specs.Laid.{Laid, laid-of}
 use Rattle.mark.specs.Words.{ops}
 use Rattle.propagate.specs.Roots.{clearLists}
-use Rattle.mark_laws.specs.Apart.{Apart, apart, laid-of, Order, order}
+use Rattle.mark_laws.specs.Apart.{Apart, apart, Order, order}
 use Rattle.room_laws.specs.Tallies.{Ample, ample}
 use Rattle.reach.specs.Cycle.{AllWhite}
 use Rattle.atomic_laws.specs.Bodies.{Bodies, bodies}

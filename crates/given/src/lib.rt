@@ -2,7 +2,7 @@
 // answers. One place tests a handle, one a value.
 use arena::Arena;
 use arena::Named;
-use layout::Lay;
+use layout::Sizes;
 use value::TableOr;
 use value::TableRef;
 use value::UpvalRef;
@@ -10,6 +10,7 @@ use value::Value;
 ghost use mathlib.Core.Path.{_≡_};
 ghost use Prim.Native.Nat.{_≤_};
 ghost use lib.ListN.{length};
+ghost use Rattle.layout.specs.Layout.{layOf};
 ghost use Rattle.arena.specs.Slots.{Room};
 ghost use Rattle.laid.specs.Laid.{Laid};
 ghost use Rattle.given.specs.Answers.{unmarked};
@@ -49,27 +50,27 @@ pub fn is_named(w: &[u32], a: Arena, index: u32, generation: u32) -> bool
     }
 }
 
-pub fn is_table(w: &[u32], l: Lay, r: TableRef) -> bool
-    requires { ⌜ Laid l ⌝ }
-    requires { ⌜ l .words ≤ length (now w) ⌝ }
-    ensures { λ b. ⌜ b ≡ isTable l r (now (w .entry)) ⌝ }
+pub fn is_table(w: &[u32], l: Sizes, r: TableRef) -> bool
+    requires { ⌜ Laid (layOf l) ⌝ }
+    requires { ⌜ layOf l .words ≤ length (now w) ⌝ }
+    ensures { λ b. ⌜ b ≡ isTable (layOf l) r (now (w .entry)) ⌝ }
 {
-    is_named(w, l.tables, r.0, r.1)
+    is_named(w, layout::tables_of(l), r.0, r.1)
 }
 
-pub fn is_upvalue(w: &[u32], l: Lay, r: UpvalRef) -> bool
-    requires { ⌜ Laid l ⌝ }
-    requires { ⌜ l .words ≤ length (now w) ⌝ }
-    ensures { λ b. ⌜ b ≡ isUpvalue l r (now (w .entry)) ⌝ }
+pub fn is_upvalue(w: &[u32], l: Sizes, r: UpvalRef) -> bool
+    requires { ⌜ Laid (layOf l) ⌝ }
+    requires { ⌜ layOf l .words ≤ length (now w) ⌝ }
+    ensures { λ b. ⌜ b ≡ isUpvalue (layOf l) r (now (w .entry)) ⌝ }
 {
-    is_named(w, l.upvalues, r.0, r.1)
+    is_named(w, layout::upvalues_of(l), r.0, r.1)
 }
 
 // A table that may be missing.
-pub fn is_table_or(w: &[u32], l: Lay, t: TableOr) -> bool
-    requires { ⌜ Laid l ⌝ }
-    requires { ⌜ l .words ≤ length (now w) ⌝ }
-    ensures { λ b. ⌜ b ≡ isTableOr l t (now (w .entry)) ⌝ }
+pub fn is_table_or(w: &[u32], l: Sizes, t: TableOr) -> bool
+    requires { ⌜ Laid (layOf l) ⌝ }
+    requires { ⌜ layOf l .words ≤ length (now w) ⌝ }
+    ensures { λ b. ⌜ b ≡ isTableOr (layOf l) t (now (w .entry)) ⌝ }
 {
     match t {
         TableOr::Present(r) => is_table(w, l, r),
@@ -78,17 +79,17 @@ pub fn is_table_or(w: &[u32], l: Lay, t: TableOr) -> bool
 }
 
 // A value that refers to an object names one; any other value is sound.
-pub fn is_sound(w: &[u32], l: Lay, v: Value) -> bool
-    requires { ⌜ Laid l ⌝ }
-    requires { ⌜ l .words ≤ length (now w) ⌝ }
-    ensures { λ b. ⌜ b ≡ isSound l v (now (w .entry)) ⌝ }
+pub fn is_sound(w: &[u32], l: Sizes, v: Value) -> bool
+    requires { ⌜ Laid (layOf l) ⌝ }
+    requires { ⌜ layOf l .words ≤ length (now w) ⌝ }
+    ensures { λ b. ⌜ b ≡ isSound (layOf l) v (now (w .entry)) ⌝ }
 {
     match v {
-        Value::Str(r) => is_named(w, l.strings, r.0, r.1),
-        Value::Table(r) => is_named(w, l.tables, r.0, r.1),
-        Value::Function(r) => is_named(w, l.functions, r.0, r.1),
-        Value::Userdata(r) => is_named(w, l.userdata, r.0, r.1),
-        Value::Thread(r) => is_named(w, l.threads, r.0, r.1),
+        Value::Str(r) => is_named(w, layout::strings_of(l), r.0, r.1),
+        Value::Table(r) => is_named(w, layout::tables_of(l), r.0, r.1),
+        Value::Function(r) => is_named(w, layout::functions_of(l), r.0, r.1),
+        Value::Userdata(r) => is_named(w, layout::userdata_of(l), r.0, r.1),
+        Value::Thread(r) => is_named(w, layout::threads_of(l), r.0, r.1),
         _ => true,
     }
 }

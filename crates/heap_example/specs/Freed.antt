@@ -26,7 +26,8 @@ use Rattle.lists.specs.Lists.{lengthOf}
 use Rattle.mark.specs.Ops.{Ref, ref}
 use Rattle.mark.specs.Words.{arenaOf, colourW}
 use Rattle.links.specs.Links.{links}
-use Rattle.mark_laws.specs.Apart.{apart, laid-of, Order, order, arena-kind}
+use Rattle.laid.specs.Laid.{laid-of}
+use Rattle.mark_laws.specs.Apart.{apart, Order, order, arena-kind}
 use Rattle.mark_laws.specs.Colours.{shade-parts}
 use Rattle.reach.specs.Reached.{Reach·root, Reach·step, Occupied}
 use Rattle.reach.specs.Cycle.{AllWhite}

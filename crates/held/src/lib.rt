@@ -1,21 +1,22 @@
 // The handles in the records of occupied slots (document 01, the audit): each names an occupied slot. One function for each
 // kind says which handles its record holds; whether one names a slot is asked in one place, `given::is_named`. Nothing is
 // changed, and each slot is looked at once.
-use layout::Lay;
+use layout::Sizes;
 use reads::Kind;
 ghost use mathlib.Core.Path.{_≡_};
 ghost use Prim.Native.Nat.{_+_, _*_, _≤_, _<_};
 ghost use lib.ListN.{length};
+ghost use Rattle.layout.specs.Layout.{layOf};
 ghost use Rattle.laid.specs.Laid.{Laid};
 ghost use Rattle.reads.specs.Objects.{arenaOf, wordsOf};
 ghost use Rattle.held.specs.Held.{upvaluesName, nodeNames, nodesName, tableNames, closureNames, upvalueNames, userdataNames, fieldsName, listsName, threadNames, recordNames, slotNames, slotsName, allName};
 
 // Whether each of n handles from q on names an upvalue.
-fn upvalues_name(w: &[u32], l: Lay, q: usize, n: usize) -> bool
-    requires { ⌜ Laid l ⌝ }
-    requires { ⌜ l .words ≤ length (now w) ⌝ }
+fn upvalues_name(w: &[u32], l: Sizes, q: usize, n: usize) -> bool
+    requires { ⌜ Laid (layOf l) ⌝ }
+    requires { ⌜ layOf l .words ≤ length (now w) ⌝ }
     requires { ⌜ q + 2 * n ≤ length (now w) ⌝ }
-    ensures { λ r. ⌜ r ≡ upvaluesName l (now (w .entry)) q n ⌝ }
+    ensures { λ r. ⌜ r ≡ upvaluesName (layOf l) (now (w .entry)) q n ⌝ }
 {
     let mut k: usize = 0;
     while k < n {
@@ -28,11 +29,11 @@ fn upvalues_name(w: &[u32], l: Lay, q: usize, n: usize) -> bool
 }
 
 // The key and the value of node j.
-fn node_names(w: &[u32], l: Lay, p: usize, j: usize) -> bool
-    requires { ⌜ Laid l ⌝ }
-    requires { ⌜ l .words ≤ length (now w) ⌝ }
+fn node_names(w: &[u32], l: Sizes, p: usize, j: usize) -> bool
+    requires { ⌜ Laid (layOf l) ⌝ }
+    requires { ⌜ layOf l .words ≤ length (now w) ⌝ }
     requires { ⌜ (p + 580 ≤ length (now w)) × (j < 64) ⌝ }
-    ensures { λ r. ⌜ r ≡ nodeNames l (now (w .entry)) p j ⌝ }
+    ensures { λ r. ⌜ r ≡ nodeNames (layOf l) (now (w .entry)) p j ⌝ }
 {
     let key = record::tables::node_key(w, p, j);
     let value = record::tables::node_value(w, p, j);
@@ -42,11 +43,11 @@ fn node_names(w: &[u32], l: Lay, p: usize, j: usize) -> bool
     given::is_sound(w, l, value)
 }
 
-fn nodes_name(w: &[u32], l: Lay, p: usize) -> bool
-    requires { ⌜ Laid l ⌝ }
-    requires { ⌜ l .words ≤ length (now w) ⌝ }
+fn nodes_name(w: &[u32], l: Sizes, p: usize) -> bool
+    requires { ⌜ Laid (layOf l) ⌝ }
+    requires { ⌜ layOf l .words ≤ length (now w) ⌝ }
     requires { ⌜ p + 580 ≤ length (now w) ⌝ }
-    ensures { λ r. ⌜ r ≡ nodesName l (now (w .entry)) p ⌝ }
+    ensures { λ r. ⌜ r ≡ nodesName (layOf l) (now (w .entry)) p ⌝ }
 {
     let n = record::tables::node_count(w, p);
     let mut j: usize = 0;
@@ -59,11 +60,11 @@ fn nodes_name(w: &[u32], l: Lay, p: usize) -> bool
     true
 }
 
-fn table_names(w: &[u32], l: Lay, p: usize) -> bool
-    requires { ⌜ Laid l ⌝ }
-    requires { ⌜ l .words ≤ length (now w) ⌝ }
+fn table_names(w: &[u32], l: Sizes, p: usize) -> bool
+    requires { ⌜ Laid (layOf l) ⌝ }
+    requires { ⌜ layOf l .words ≤ length (now w) ⌝ }
     requires { ⌜ p + 580 ≤ length (now w) ⌝ }
-    ensures { λ r. ⌜ r ≡ tableNames l (now (w .entry)) p ⌝ }
+    ensures { λ r. ⌜ r ≡ tableNames (layOf l) (now (w .entry)) p ⌝ }
 {
     if !given::is_table_or(w, l, record::tables::table_meta(w, p)) {
         return false;
@@ -74,11 +75,11 @@ fn table_names(w: &[u32], l: Lay, p: usize) -> bool
     nodes_name(w, l, p)
 }
 
-fn closure_names(w: &[u32], l: Lay, p: usize) -> bool
-    requires { ⌜ Laid l ⌝ }
-    requires { ⌜ l .words ≤ length (now w) ⌝ }
+fn closure_names(w: &[u32], l: Sizes, p: usize) -> bool
+    requires { ⌜ Laid (layOf l) ⌝ }
+    requires { ⌜ layOf l .words ≤ length (now w) ⌝ }
     requires { ⌜ p + 53 ≤ length (now w) ⌝ }
-    ensures { λ r. ⌜ r ≡ closureNames l (now (w .entry)) p ⌝ }
+    ensures { λ r. ⌜ r ≡ closureNames (layOf l) (now (w .entry)) p ⌝ }
 {
     if !given::is_table_or(w, l, run_record::closures::closure_env(w, p)) {
         return false;
@@ -90,11 +91,11 @@ fn closure_names(w: &[u32], l: Lay, p: usize) -> bool
     upvalues_name(w, l, p + 5, n)
 }
 
-fn upvalue_names(w: &[u32], l: Lay, p: usize) -> bool
-    requires { ⌜ Laid l ⌝ }
-    requires { ⌜ l .words ≤ length (now w) ⌝ }
+fn upvalue_names(w: &[u32], l: Sizes, p: usize) -> bool
+    requires { ⌜ Laid (layOf l) ⌝ }
+    requires { ⌜ layOf l .words ≤ length (now w) ⌝ }
     requires { ⌜ p + 4 ≤ length (now w) ⌝ }
-    ensures { λ r. ⌜ r ≡ upvalueNames l (now (w .entry)) p ⌝ }
+    ensures { λ r. ⌜ r ≡ upvalueNames (layOf l) (now (w .entry)) p ⌝ }
 {
     if run_record::upvalues::is_closed(w, p) {
         return given::is_sound(w, l, run_record::upvalues::upvalue_value(w, p));
@@ -102,11 +103,11 @@ fn upvalue_names(w: &[u32], l: Lay, p: usize) -> bool
     true
 }
 
-fn userdata_names(w: &[u32], l: Lay, p: usize) -> bool
-    requires { ⌜ Laid l ⌝ }
-    requires { ⌜ l .words ≤ length (now w) ⌝ }
+fn userdata_names(w: &[u32], l: Sizes, p: usize) -> bool
+    requires { ⌜ Laid (layOf l) ⌝ }
+    requires { ⌜ layOf l .words ≤ length (now w) ⌝ }
     requires { ⌜ p + 7 ≤ length (now w) ⌝ }
-    ensures { λ r. ⌜ r ≡ userdataNames l (now (w .entry)) p ⌝ }
+    ensures { λ r. ⌜ r ≡ userdataNames (layOf l) (now (w .entry)) p ⌝ }
 {
     if !given::is_table_or(w, l, record::userdata::ud_meta(w, p)) {
         return false;
@@ -115,11 +116,11 @@ fn userdata_names(w: &[u32], l: Lay, p: usize) -> bool
 }
 
 // The global, the hook function and the error value of a thread.
-fn fields_name(w: &[u32], l: Lay, p: usize) -> bool
-    requires { ⌜ Laid l ⌝ }
-    requires { ⌜ l .words ≤ length (now w) ⌝ }
+fn fields_name(w: &[u32], l: Sizes, p: usize) -> bool
+    requires { ⌜ Laid (layOf l) ⌝ }
+    requires { ⌜ layOf l .words ≤ length (now w) ⌝ }
     requires { ⌜ p + 268 ≤ length (now w) ⌝ }
-    ensures { λ r. ⌜ r ≡ fieldsName l (now (w .entry)) p ⌝ }
+    ensures { λ r. ⌜ r ≡ fieldsName (layOf l) (now (w .entry)) p ⌝ }
 {
     if !given::is_table_or(w, l, run_record::threads::thread_global(w, p)) {
         return false;
@@ -131,11 +132,11 @@ fn fields_name(w: &[u32], l: Lay, p: usize) -> bool
 }
 
 // Its open and its suspended upvalues.
-fn lists_name(w: &[u32], l: Lay, p: usize) -> bool
-    requires { ⌜ Laid l ⌝ }
-    requires { ⌜ l .words ≤ length (now w) ⌝ }
+fn lists_name(w: &[u32], l: Sizes, p: usize) -> bool
+    requires { ⌜ Laid (layOf l) ⌝ }
+    requires { ⌜ layOf l .words ≤ length (now w) ⌝ }
     requires { ⌜ p + 268 ≤ length (now w) ⌝ }
-    ensures { λ r. ⌜ r ≡ listsName l (now (w .entry)) p ⌝ }
+    ensures { λ r. ⌜ r ≡ listsName (layOf l) (now (w .entry)) p ⌝ }
 {
     let n = run_record::threads::thread_open_count(w, p);
     let m = run_record::threads::thread_suspended_count(w, p);
@@ -145,11 +146,11 @@ fn lists_name(w: &[u32], l: Lay, p: usize) -> bool
     upvalues_name(w, l, p + 44, m)
 }
 
-fn thread_names(w: &[u32], l: Lay, p: usize) -> bool
-    requires { ⌜ Laid l ⌝ }
-    requires { ⌜ l .words ≤ length (now w) ⌝ }
+fn thread_names(w: &[u32], l: Sizes, p: usize) -> bool
+    requires { ⌜ Laid (layOf l) ⌝ }
+    requires { ⌜ layOf l .words ≤ length (now w) ⌝ }
     requires { ⌜ p + 268 ≤ length (now w) ⌝ }
-    ensures { λ r. ⌜ r ≡ threadNames l (now (w .entry)) p ⌝ }
+    ensures { λ r. ⌜ r ≡ threadNames (layOf l) (now (w .entry)) p ⌝ }
 {
     if !fields_name(w, l, p) {
         return false;
@@ -161,11 +162,11 @@ fn thread_names(w: &[u32], l: Lay, p: usize) -> bool
 }
 
 // Whether every handle in the record at p, of kind k, names an occupied slot.
-fn record_names(w: &[u32], l: Lay, k: Kind, p: usize) -> bool
-    requires { ⌜ Laid l ⌝ }
-    requires { ⌜ l .words ≤ length (now w) ⌝ }
+fn record_names(w: &[u32], l: Sizes, k: Kind, p: usize) -> bool
+    requires { ⌜ Laid (layOf l) ⌝ }
+    requires { ⌜ layOf l .words ≤ length (now w) ⌝ }
     requires { ⌜ p + wordsOf k ≤ length (now w) ⌝ }
-    ensures { λ r. ⌜ r ≡ recordNames l (now (w .entry)) k p ⌝ }
+    ensures { λ r. ⌜ r ≡ recordNames (layOf l) (now (w .entry)) k p ⌝ }
 {
     match k {
         Kind::Strings => true,
@@ -178,11 +179,11 @@ fn record_names(w: &[u32], l: Lay, k: Kind, p: usize) -> bool
 }
 
 // A free slot has no record.
-fn slot_names(w: &[u32], l: Lay, k: Kind, i: usize) -> bool
-    requires { ⌜ Laid l ⌝ }
-    requires { ⌜ l .words ≤ length (now w) ⌝ }
-    requires { ⌜ i < arenaOf l k .slots ⌝ }
-    ensures { λ r. ⌜ r ≡ slotNames l (now (w .entry)) k i ⌝ }
+fn slot_names(w: &[u32], l: Sizes, k: Kind, i: usize) -> bool
+    requires { ⌜ Laid (layOf l) ⌝ }
+    requires { ⌜ layOf l .words ≤ length (now w) ⌝ }
+    requires { ⌜ i < arenaOf (layOf l) k .slots ⌝ }
+    ensures { λ r. ⌜ r ≡ slotNames (layOf l) (now (w .entry)) k i ⌝ }
 {
     let a = reads::arena_of(l, k);
     if arena::colour_of(w, a, i) == 0 {
@@ -191,10 +192,10 @@ fn slot_names(w: &[u32], l: Lay, k: Kind, i: usize) -> bool
     record_names(w, l, k, record::body_of(w, a, i))
 }
 
-fn slots_name(w: &[u32], l: Lay, k: Kind) -> bool
-    requires { ⌜ Laid l ⌝ }
-    requires { ⌜ l .words ≤ length (now w) ⌝ }
-    ensures { λ r. ⌜ r ≡ slotsName l (now (w .entry)) k ⌝ }
+fn slots_name(w: &[u32], l: Sizes, k: Kind) -> bool
+    requires { ⌜ Laid (layOf l) ⌝ }
+    requires { ⌜ layOf l .words ≤ length (now w) ⌝ }
+    ensures { λ r. ⌜ r ≡ slotsName (layOf l) (now (w .entry)) k ⌝ }
 {
     let n = arena::used_of(w, reads::arena_of(l, k));
     let mut i: usize = 0;
@@ -208,10 +209,10 @@ fn slots_name(w: &[u32], l: Lay, k: Kind) -> bool
 }
 
 // Whether every handle in an occupied record names an occupied slot. Strings hold none.
-pub fn all_name(w: &[u32], l: Lay) -> bool
-    requires { ⌜ Laid l ⌝ }
-    requires { ⌜ l .words ≤ length (now w) ⌝ }
-    ensures { λ r. ⌜ r ≡ allName l (now (w .entry)) ⌝ }
+pub fn all_name(w: &[u32], l: Sizes) -> bool
+    requires { ⌜ Laid (layOf l) ⌝ }
+    requires { ⌜ layOf l .words ≤ length (now w) ⌝ }
+    ensures { λ r. ⌜ r ≡ allName (layOf l) (now (w .entry)) ⌝ }
 {
     if !slots_name(w, l, Kind::Tables) {
         return false;

@@ -7,7 +7,10 @@ use lib.ListN.{length}
 use Rattle.arena.specs.Slots.{Room}
 use Rattle.layout.specs.declared.List.{List}
 use Rattle.layout.specs.declared.Lay.{Lay}
-use Rattle.layout.specs.Fits.{Ok, ListOk, room}
+use Rattle.layout.specs.declared.Sizes.{Sizes}
+use Rattle.layout.specs.Sizes.{SizesOk}
+use Rattle.layout.specs.Layout.{layOf}
+use Rattle.layout.specs.Fits.{Ok, ListOk, room, lay-ok, sizes-in, sizes-of}
 use Rattle.lists.specs.Lists.{RoomFor}
 use Rattle.main_record.specs.Parts.{Parts, parts}
 
@@ -15,11 +18,20 @@ use Rattle.main_record.specs.Parts.{Parts, parts}
 unfoldable pub Laid : Lay → Type 0
 Laid l = Ok l (l .words) (l .bytes)
 
+-- It is exactly that its sizes lie within their ranges.
+pub laid-of : (s : Sizes) → SizesOk s → Laid (layOf s)
+unfolding Laid
+laid-of s h = lay-ok s (layOf s .words) (layOf s .bytes) h (omega arith) (omega arith)
+
+pub sizes-laid : (s : Sizes) → Laid (layOf s) → SizesOk s
+unfolding Laid
+sizes-laid s ok = sizes-of s (sizes-in (layOf s) (layOf s .words) (layOf s .bytes) ok)
+
 list-room : {b : List} {t d : ℕ} (w : Words ℕ) → ListOk b t d → t ≤ 90 → d ≤ length w → 91 ≤ length w → RoomFor b w
 list-room w h p q r = record { room = omega arith; count = omega arith; fits = omega arith; mark = omega arith }
 
 parts-more : (l : Lay) (n m : ℕ) → n ≤ m → Parts l n → Parts l m
-parts-more l n m h p = record { header = omega (arith, p .header); protos = omega (arith, p .protos); stack = omega (arith, p .stack); opens = omega (arith, p .opens); frames = omega (arith, p .frames); frame = p .frame }
+parts-more l n m h p = record { header = omega (arith, p .header); protos = omega (arith, p .protos); stack = omega (arith, p .stack); opens = omega (arith, p .opens); frames = omega (arith, p .frames); frame = p .frame; sizes = p .sizes }
 
 module _ (l : Lay) (w : Words ℕ) (ok : Laid l) (long : l .words ≤ length w) where
   pub strings-room : Room (l .strings) w

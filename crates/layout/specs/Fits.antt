@@ -105,35 +105,71 @@ lay-ok s n m h p q = record {
 
 -- what an answer gives
 abbrev pub Gives : Opened → ℕ → ℕ → Type 0
-Gives (Fits l) n m = Ok l n m
+Gives (Fits s) n m = Ok (layOf s) n m
 Gives (Refused k) n m = Unit {0}
 
--- the layout of chosen sizes fits the words and bytes that it says
+-- chosen sizes that fit lie within their ranges
 abbrev pub Plans : Opened → Type 0
-Plans (Fits l) = Ok l (l .words) (l .bytes)
+Plans (Fits s) = SizesOk s
 Plans (Refused k) = Unit {0}
 
--- a layout is planned exactly for sizes within their ranges, and it is theirs
-abbrev layIn : Lay → Opened → Lay
-layIn l (Fits k) = k
-layIn l (Refused n) = l
+-- the sizes that a layout was made from, and that those of a layout that fits lie within their ranges
+abbrev pub sizesIn : Lay → Sizes
+sizesIn l = record {
+  strings = l .strings .slots;
+  tables = l .tables .slots;
+  functions = l .functions .slots;
+  upvalues = l .upvalues .slots;
+  userdata = l .userdata .slots;
+  threads = l .threads .slots;
+  protos = l .protos .room;
+  stack = l .stack .room;
+  opens = l .opens .room;
+  frames = l .frames .room;
+}
+
+pub sizes-in : (l : Lay) (n m : ℕ) → Ok l n m → SizesOk (sizesIn l)
+sizes-in l n m h = record {
+  strings2 = h .two-strings;
+  strings = h .strings .slots;
+  tables2 = h .two-tables;
+  tables = h .tables .slots;
+  functions = h .functions .slots;
+  upvalues = h .upvalues .slots;
+  userdata = h .userdata .slots;
+  threads = h .threads .slots;
+  protos = h .protos .room;
+  stack = h .stack .room;
+  opens = h .opens .room;
+  frames1 = h .one-frame;
+  frames = h .frames .room;
+}
+
+pub sizes-of : (s : Sizes) → SizesOk (sizesIn (layOf s)) → SizesOk s
+unfolding layOf
+sizes-of s h = h
+
+-- sizes are planned exactly within their ranges, as they are
+abbrev sizesOr : Sizes → Opened → Sizes
+sizesOr s (Fits z) = z
+sizesOr s (Refused n) = s
 
 abbrev isFits : Opened → Bool
-isFits (Fits l) = true
+isFits (Fits s) = true
 isFits (Refused n) = false
 
-pub planned-fits : (s : Sizes) (l : Lay) → Fits l ≡ planned s → (sizesFit s ≡ true) × (l ≡ layOf s)
+pub planned-fits : (s z : Sizes) → Fits z ≡ planned s → (sizesFit s ≡ true) × (z ≡ s)
 unfolding planned
-planned-fits s l p = cases (sizesFit s) p
+planned-fits s z p = cases (sizesFit s) p
   where
-    cases : (b : Bool) → Fits l ≡ cond b (Fits (layOf s)) (Refused 4) → (b ≡ true) × (l ≡ layOf s)
-    cases true p = (refl, ap (layIn l) p)
+    cases : (b : Bool) → Fits z ≡ cond b (Fits s) (Refused 4) → (b ≡ true) × (z ≡ s)
+    cases true p = (refl, ap (sizesOr s) p)
     cases false p = absurd (true≢false (ap isFits p))
 
 pub planned-refused : (s : Sizes) (n : ℕ) → Refused n ≡ planned s → sizesFit s ≡ false
 unfolding planned
 planned-refused s n p = cases (sizesFit s) p
   where
-    cases : (b : Bool) → Refused n ≡ cond b (Fits (layOf s)) (Refused 4) → b ≡ false
+    cases : (b : Bool) → Refused n ≡ cond b (Fits s) (Refused 4) → b ≡ false
     cases true p = absurd (true≢false (sym (ap isFits p)))
     cases false p = refl

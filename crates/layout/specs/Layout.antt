@@ -173,13 +173,13 @@ layOf s = record {
   bytes = bytesOf s;
 }
 
--- A size outside its range is 4.
+-- Sizes within their ranges, whose layout fits; a size outside its range is 4.
 unfoldable pub planned : Sizes → Opened
-planned s = cond (sizesFit s) (Fits (layOf s)) (Refused 4)
+planned s = cond (sizesFit s) (Fits s) (Refused 4)
 
 -- The words and bytes that a heap of these sizes needs.
 abbrev pub room : Opened → Needs
-room (Fits l) = Room (l .words) (l .bytes)
+room (Fits s) = Room (layOf s .words) (layOf s .bytes)
 room (Refused n) = Needs.Refused n
 
 unfoldable pub neededOf : Sizes → Needs

@@ -5,8 +5,8 @@ mod places;
 
 ghost use mathlib.Core.Path.{_≡_};
 ghost use Prim.Native.Nat.{ℕ};
-ghost use Rattle.layout.specs.Sizes.{sizesFit};
-ghost use Rattle.layout.specs.Layout.{planned, neededOf};
+ghost use Rattle.layout.specs.Sizes.{SizesOk, sizesFit};
+ghost use Rattle.layout.specs.Layout.{layOf, planned, neededOf};
 ghost use Rattle.layout.specs.Fits.{Plans};
 
 // The places of the header (specs/Places.antt says what stands there).
@@ -159,9 +159,9 @@ pub struct Lay {
     pub bytes: usize,
 }
 
-// The layout, or the number of a refusal.
+// The sizes of a layout that fits, or the number of a refusal.
 pub enum Opened {
-    Fits(Lay),
+    Fits(Sizes),
     Refused(u32),
 }
 
@@ -190,14 +190,261 @@ pub fn sizes_fit(s: Sizes) -> bool
         & (s.frames <= 32)
 }
 
-// The layout of a heap of these sizes, or 4 where one lies outside its range.
+// These sizes, whose layout fits, or 4 where one lies outside its range.
 pub fn plan(s: Sizes) -> Opened
     ensures { λ r. ⌜ (r ≡ planned s) × Plans r ⌝ }
 {
     if !sizes_fit(s) {
         return Opened::Refused(4);
     }
-    Opened::Fits(places::lay_of(s))
+    Opened::Fits(s)
+}
+
+// The parts of the layout, each computed where it is used: ten sizes are handed on, not the whole layout.
+
+pub fn strings_of(s: Sizes) -> Arena
+    requires { ⌜ SizesOk s ⌝ }
+    ensures { λ r. ⌜ r ≡ layOf s .strings ⌝ }
+{
+    let bodies = places::string_bodies_at(s);
+    Arena {
+        top: STRINGS,
+        base: HEADER,
+        slots: s.strings,
+        bodies,
+        stride: STRING_WORDS,
+        width: STRING_BYTES,
+    }
+}
+
+pub fn tables_of(s: Sizes) -> Arena
+    requires { ⌜ SizesOk s ⌝ }
+    ensures { λ r. ⌜ r ≡ layOf s .tables ⌝ }
+{
+    let bodies = places::table_bodies_at(s);
+    let base = places::tables_at(s);
+    Arena {
+        top: TABLES,
+        base,
+        slots: s.tables,
+        bodies,
+        stride: TABLE_WORDS,
+        width: 0,
+    }
+}
+
+pub fn functions_of(s: Sizes) -> Arena
+    requires { ⌜ SizesOk s ⌝ }
+    ensures { λ r. ⌜ r ≡ layOf s .functions ⌝ }
+{
+    let bodies = places::function_bodies_at(s);
+    let base = places::functions_at(s);
+    Arena {
+        top: FUNCTIONS,
+        base,
+        slots: s.functions,
+        bodies,
+        stride: FUNCTION_WORDS,
+        width: 0,
+    }
+}
+
+pub fn upvalues_of(s: Sizes) -> Arena
+    requires { ⌜ SizesOk s ⌝ }
+    ensures { λ r. ⌜ r ≡ layOf s .upvalues ⌝ }
+{
+    let bodies = places::upvalue_bodies_at(s);
+    let base = places::upvalues_at(s);
+    Arena {
+        top: UPVALUES,
+        base,
+        slots: s.upvalues,
+        bodies,
+        stride: UPVALUE_WORDS,
+        width: 0,
+    }
+}
+
+pub fn userdata_of(s: Sizes) -> Arena
+    requires { ⌜ SizesOk s ⌝ }
+    ensures { λ r. ⌜ r ≡ layOf s .userdata ⌝ }
+{
+    let bodies = places::userdata_bodies_at(s);
+    let base = places::userdata_at(s);
+    Arena {
+        top: USERDATA,
+        base,
+        slots: s.userdata,
+        bodies,
+        stride: USERDATA_WORDS,
+        width: 0,
+    }
+}
+
+pub fn threads_of(s: Sizes) -> Arena
+    requires { ⌜ SizesOk s ⌝ }
+    ensures { λ r. ⌜ r ≡ layOf s .threads ⌝ }
+{
+    let bodies = places::thread_bodies_at(s);
+    let base = places::threads_at(s);
+    Arena {
+        top: THREADS,
+        base,
+        slots: s.threads,
+        bodies,
+        stride: THREAD_WORDS,
+        width: 0,
+    }
+}
+
+pub fn gray_of(s: Sizes) -> List
+    requires { ⌜ SizesOk s ⌝ }
+    ensures { λ r. ⌜ r ≡ layOf s .gray ⌝ }
+{
+    let base = places::gray_at(s);
+    let room = places::gray_room(s);
+    List {
+        count: GRAY,
+        base,
+        room,
+    }
+}
+
+pub fn grayagain_of(s: Sizes) -> List
+    requires { ⌜ SizesOk s ⌝ }
+    ensures { λ r. ⌜ r ≡ layOf s .grayagain ⌝ }
+{
+    let base = places::grayagain_at(s);
+    let room = places::grayagain_room(s);
+    List {
+        count: GRAYAGAIN,
+        base,
+        room,
+    }
+}
+
+pub fn weak_of(s: Sizes) -> List
+    requires { ⌜ SizesOk s ⌝ }
+    ensures { λ r. ⌜ r ≡ layOf s .weak ⌝ }
+{
+    let base = places::weak_at(s);
+    let room = places::weak_room(s);
+    List {
+        count: WEAK,
+        base,
+        room,
+    }
+}
+
+pub fn queue_of(s: Sizes) -> List
+    requires { ⌜ SizesOk s ⌝ }
+    ensures { λ r. ⌜ r ≡ layOf s .queue ⌝ }
+{
+    let base = places::queue_at(s);
+    List {
+        count: QUEUE,
+        base,
+        room: s.userdata,
+    }
+}
+
+// Where the parts of the main record begin; each has as many places as its size says.
+pub fn protos_at(s: Sizes) -> usize
+    requires { ⌜ SizesOk s ⌝ }
+    ensures { λ r. ⌜ r ≡ layOf s .protos .base ⌝ }
+{
+    places::boundary_at(s)
+}
+
+pub fn stack_at(s: Sizes) -> usize
+    requires { ⌜ SizesOk s ⌝ }
+    ensures { λ r. ⌜ r ≡ layOf s .stack .base ⌝ }
+{
+    places::stack_at(s)
+}
+
+pub fn opens_at(s: Sizes) -> usize
+    requires { ⌜ SizesOk s ⌝ }
+    ensures { λ r. ⌜ r ≡ layOf s .opens .base ⌝ }
+{
+    places::opens_at(s)
+}
+
+pub fn frames_at(s: Sizes) -> usize
+    requires { ⌜ SizesOk s ⌝ }
+    ensures { λ r. ⌜ r ≡ layOf s .frames .base ⌝ }
+{
+    places::frames_at(s)
+}
+
+// The words and the bytes of a heap of these sizes.
+pub fn words_of(s: Sizes) -> usize
+    requires { ⌜ SizesOk s ⌝ }
+    ensures { λ r. ⌜ r ≡ layOf s .words ⌝ }
+{
+    places::words_at(s)
+}
+
+pub fn bytes_of(s: Sizes) -> usize
+    requires { ⌜ SizesOk s ⌝ }
+    ensures { λ r. ⌜ r ≡ layOf s .bytes ⌝ }
+{
+    STRING_BYTES * s.strings
+}
+
+// The whole layout, for calls that are not in a hurry.
+pub fn lay_of(s: Sizes) -> Lay
+    requires { ⌜ SizesOk s ⌝ }
+    ensures { λ r. ⌜ r ≡ layOf s ⌝ }
+{
+    let strings = strings_of(s);
+    let tables = tables_of(s);
+    let functions = functions_of(s);
+    let upvalues = upvalues_of(s);
+    let userdata = userdata_of(s);
+    let threads = threads_of(s);
+    let gray = gray_of(s);
+    let grayagain = grayagain_of(s);
+    let weak = weak_of(s);
+    let queue = queue_of(s);
+    let protos = protos_at(s);
+    let stack = stack_at(s);
+    let opens = opens_at(s);
+    let frames = frames_at(s);
+    let boundary = places::boundary_at(s);
+    let words = words_of(s);
+    let bytes = bytes_of(s);
+    Lay {
+        strings,
+        tables,
+        functions,
+        upvalues,
+        userdata,
+        threads,
+        gray,
+        grayagain,
+        weak,
+        queue,
+        protos: Part {
+            base: protos,
+            room: s.protos,
+        },
+        stack: Part {
+            base: stack,
+            room: s.stack,
+        },
+        opens: Part {
+            base: opens,
+            room: s.opens,
+        },
+        frames: Part {
+            base: frames,
+            room: s.frames,
+        },
+        boundary,
+        words,
+        bytes,
+    }
 }
 
 // The words and bytes that a heap of these sizes needs, or 4 where one lies outside its range.
@@ -205,7 +452,7 @@ pub fn needed(s: Sizes) -> Needs
     ensures { λ r. ⌜ r ≡ neededOf s ⌝ }
 {
     match plan(s) {
-        Opened::Fits(l) => Needs::Room(l.words, l.bytes),
+        Opened::Fits(z) => Needs::Room(words_of(z), bytes_of(z)),
         Opened::Refused(n) => Needs::Refused(n),
     }
 }

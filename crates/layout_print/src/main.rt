@@ -170,7 +170,8 @@ fn parts(l: Lay) {
 fn show(name: &[u8], s: Sizes) {
     text(name);
     match layout::plan(s) {
-        Opened::Fits(l) => {
+        Opened::Fits(z) => {
+            let l = layout::lay_of(z);
             at(b": ", l.words, b" words, ");
             at(b"", l.bytes, b" bytes, ");
             at(b"boundary at ", l.boundary, b"\n");

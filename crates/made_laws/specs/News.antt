@@ -29,10 +29,10 @@ use Rattle.layout.specs.Sizes.{SizesOk}
 use Rattle.layout.specs.Layout.{layOf}
 use Rattle.layout.specs.Places.{PROTOTYPES, TOP, OPENS, CI, DAMAGE, PHASE, WHITE, TOTAL, INTERRUPTED}
 use Rattle.test1.specs.Test1.{sizesAt}
-use Rattle.laid.specs.Laid.{Laid}
+use Rattle.laid.specs.Laid.{Laid, laid-of}
 use Rattle.newheap.specs.New.{arenaSizes, mainSizes, settings, counters, roots, twoMarks, twoExtents, lengths, tableSizes, names, tables, fields, newWords, modeText, gcText, newBytes}
 use Rattle.mark.specs.Words.{arenaOf}
-use Rattle.mark_laws.specs.Apart.{Apart, apart, laid-of, Order, order, arena-before, arena-header, arena-lists}
+use Rattle.mark_laws.specs.Apart.{Apart, apart, Order, order, arena-before, arena-header, arena-lists}
 use Rattle.room_laws.specs.Queues.{queue-count}
 use Rattle.sweep_laws.specs.Places.{Rows, rows, top-is}
 use Rattle.sweep_laws.specs.Turns.{Arenas}

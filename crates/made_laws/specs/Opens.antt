@@ -29,7 +29,8 @@ use Rattle.layout.specs.Places.{DAMAGE, PHASE, TOTAL, HEADER, STRINGS, TABLES, 
 use Rattle.test1.specs.Test1.{sizesAt, arenaRows, arenasFit, listRows, mainRows, stateRows, countsFit, accepted, opened}
 use Rattle.test1.specs.Calls.{onOpened, call, onMarked, callMarked, onAsked, ask}
 use Rattle.mark.specs.Words.{arenaOf}
-use Rattle.mark_laws.specs.Apart.{apart, laid-of, Order, order}
+use Rattle.laid.specs.Laid.{laid-of}
+use Rattle.mark_laws.specs.Apart.{apart, Order, order}
 use Rattle.sweep_laws.specs.Places.{rows, top-is}
 use Rattle.state_laws.specs.State.{Swept, State}
 use Rattle.made.specs.Made.{Made}
@@ -124,14 +125,14 @@ module _ (s : Sizes) (f : SizesOk s) (h : Heap) (t : State (layOf s) h) where
       (le-leb (layOf s .bytes) (length (h .bytes)) (t .wide)))
 
 -- Test 1 gives the layout: neither 1 nor 8.
-pub made-opened : (h : Heap) → Made h → opened (h .words) (length (h .bytes)) ≡ Fits (layAt h)
+pub made-opened : (h : Heap) → Made h → opened (h .words) (length (h .bytes)) ≡ Fits (sizesAt (h .words))
 unfolding opened
 made-opened h m = go (accepted (h .words) (length (h .bytes))) (eqb (at (h .words) DAMAGE) 0) (accepts (sizesAt (h .words)) (s .fits) h (s .state) refl) (eq-eqb (at (h .words) DAMAGE) 0 (s .state .whole))
   where
     s : Sound h
     s = made-sound m
 
-    go : (a d : Bool) → a ≡ true → d ≡ true → _≡_ {A = Opened} (cond a (cond d (Fits (layOf (sizesAt (h .words)))) (Refused 8)) (Refused 1)) (Fits (layAt h))
+    go : (a d : Bool) → a ≡ true → d ≡ true → _≡_ {A = Opened} (cond a (cond d (Fits (sizesAt (h .words))) (Refused 8)) (Refused 1)) (Fits (sizesAt (h .words)))
     go true true e f = refl
     go true false e f = absurd (true≢false (sym f))
     go false d e f = absurd (true≢false (sym e))
@@ -147,7 +148,7 @@ unfolding callMarked
 made-marked {A} refuse f h m s =
     e ∙ ap (λ (x : A). (x, f (layAt h) h .1)) (sym (eq-yes (at (f (layAt h) h .1 .words) DAMAGE) 0 (f (layAt h) h .0) (refuse 8) _ (ap (λ (x : A × Heap). at (x .1 .words) DAMAGE) (sym e) ∙ s .state .whole) refl))
   where
-    e : callMarked refuse f h ≡ onMarked refuse f h (Fits (layAt h))
+    e : callMarked refuse f h ≡ onMarked refuse f h (Fits (sizesAt (h .words)))
     e = ap (onMarked refuse f h) (made-opened h m)
 
 -- and one that only reads.

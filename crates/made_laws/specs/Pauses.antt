@@ -20,9 +20,9 @@ use Rattle.layout.specs.Places.{PROTOTYPES, DAMAGE, PHASE, INTERRUPTED}
 use Rattle.lists.specs.Lists.{lengthOf}
 use Rattle.test1.specs.Test1.{sizesAt}
 use Rattle.main_record.specs.Prototypes.{protoAt, protoParent, protoChild}
-use Rattle.laid.specs.Laid.{Laid}
+use Rattle.laid.specs.Laid.{Laid, laid-of}
 use Rattle.mark.specs.Words.{arenaOf, colourW}
-use Rattle.mark_laws.specs.Apart.{Apart, apart, laid-of, Order, order, arena-kind}
+use Rattle.mark_laws.specs.Apart.{Apart, apart, Order, order, arena-kind}
 use Rattle.mark_laws.specs.Colours.{shade-parts}
 use Rattle.reach.specs.Cycle.{AllWhite}
 use Rattle.atomic_laws.specs.Dues.{shade-colour}

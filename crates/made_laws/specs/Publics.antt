@@ -33,8 +33,8 @@ use Rattle.sweep_step.specs.Sweeping.{sweepStrings, sweepOthers}
 use Rattle.pace.specs.Pace.{budgeted, automatic}
 use Rattle.steps.specs.Steps.{isOut, stepped, singleIn, budgetIn, autoIn, gcSinglestep, gcStep, gcStepAuto}
 use Rattle.lists.specs.Lists.{lengthOf}
-use Rattle.laid.specs.Laid.{Laid}
-use Rattle.mark_laws.specs.Apart.{Apart, apart, laid-of}
+use Rattle.laid.specs.Laid.{Laid, laid-of}
+use Rattle.mark_laws.specs.Apart.{Apart, apart}
 use Rattle.room_laws.specs.Tallies.{Ample, ample}
 use Rattle.reach.specs.Cycle.{AllWhite}
 use Rattle.atomic_laws.specs.Bodies.{Bodies, bodies}

@@ -18,8 +18,8 @@ use Rattle.newheap.specs.declared.Made.the-variants as making
 use Rattle.newheap.specs.declared.Made as make
 use Rattle.newheap.specs.New.{newHeap, madeIn, makeHeap}
 use Rattle.made.specs.Made.{Call, make-string, make-table, make-proto, make-lua-closure, make-rust-closure, make-open-upvalue, make-closed-upvalue, make-userdata, make-thread, table-set, table-set-node, table-set-meta, upvalue-close, upvalue-set, ud-set-meta, ud-set-env, thread-push, thread-pop, thread-set, thread-set-top, thread-open-push, thread-open-cut, thread-suspended-push, thread-suspended-cut, thread-set-global, thread-set-error, thread-set-hook, push-value, pop-value, stack-set, set-top, open-push, open-cut, set-frame, set-ci, set-error, set-hook, set-type-meta, gc-singlestep, gc-step, gc-step-auto, full-gc, gc-check, finish-with, set-pause, set-stepmul, set-limit, called, Made, new, after}
-use Rattle.mark_laws.specs.Apart.{Apart, apart, laid-of}
-use Rattle.laid.specs.Laid.{Laid}
+use Rattle.mark_laws.specs.Apart.{Apart, apart}
+use Rattle.laid.specs.Laid.{Laid, laid-of}
 use Rattle.room_laws.specs.Tallies.{Ample, ample}
 use Rattle.atomic_laws.specs.Bodies.{Bodies, bodies}
 use Rattle.sweep_laws.specs.Places.{Rows, rows}
@@ -77,7 +77,7 @@ new-sound s h e = go (sizesFit s) refl e
     refused : (n : ℕ) (g : Heap) → P (making.Refused n, g)
     refused n g z = absurd (true≢false (sym (ap done z)))
 
-    go : (b : Bool) → sizesFit s ≡ b → P (madeIn h (cond b (Fits (layOf s)) (Refused 4)))
+    go : (b : Bool) → sizesFit s ≡ b → P (madeIn h (cond b (Fits s) (Refused 4)))
     go false f = refused 4 h
     go true f =
         lt-both P (length (h .words)) (layOf s .words) (making.Refused 1, h) _ (λ z. refused 1 h)

@@ -24,7 +24,7 @@ module _ (s : Sizes) (f : SizesOk s) (h : Heap) (long : layOf s .words ≤ lengt
   made-is : makeHeap s h ≡ (making.Done, newHeap (layOf s) h)
   unfolding makeHeap planned
   made-is =
-      ap (λ (b : Bool). madeIn h (cond b (Fits (layOf s)) (Refused 4))) (sizes-pass s f)
+      ap (λ (b : Bool). madeIn h (cond b (Fits s) (Refused 4))) (sizes-pass s f)
       ∙ sym (lt-no (length (h .words)) (layOf s .words) (making.Refused 1, h) _ (making.Done, newHeap (layOf s) h) long
       (lt-no (length (h .bytes)) (layOf s .bytes) (making.Refused 1, h) (making.Done, newHeap (layOf s) h) (making.Done, newHeap (layOf s) h) wide refl))
 

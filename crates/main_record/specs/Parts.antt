@@ -1,8 +1,10 @@
--- The header, and the parts of the main record and of the prototypes, lie within n words. Assumes nothing.
+-- The header, and the parts of the main record and of the prototypes, lie within n words; the sizes lie within their ranges.
+-- Assumes nothing.
 use Prim.Native.Nat.{ℕ, _+_, _*_, _≤_}
 use native.Mathlib.Omega.{arith}
 use Rattle.layout.specs.declared.Lay.{Lay}
-use Rattle.layout.specs.Fits.{Ok}
+use Rattle.layout.specs.Sizes.{SizesOk}
+use Rattle.layout.specs.Fits.{Ok, sizesIn, sizes-in}
 
 pub record Parts (l : Lay) (n : ℕ) : Type 0 where
   pub header : 91 ≤ n
@@ -11,6 +13,7 @@ pub record Parts (l : Lay) (n : ℕ) : Type 0 where
   pub opens : l .opens .base + 2 * l .opens .room ≤ n
   pub frames : l .frames .base + l .frames .room ≤ n
   pub frame : 1 ≤ l .frames .room
+  pub sizes : SizesOk (sizesIn l)
 
 -- as a layout gives it
 pub parts : (l : Lay) (n m : ℕ) → Ok l n m → Parts l n
@@ -21,4 +24,5 @@ parts l n m h = record {
   opens = h .opens .fits;
   frames = omega (arith, h .frames .fits);
   frame = h .one-frame;
+  sizes = sizes-in l n m h;
 }

@@ -1,7 +1,7 @@
 // The main record and the other roots (document 01, 'Followed links'): one function for each field, to read it and to write
 // it. The prototypes stand in a module of their own. A `Lay` says where the parts past the header lie; contents are taken as
 // they are, and a count never reads past its part.
-use layout::Lay;
+use layout::Sizes;
 use value::StrOr;
 use value::TableOr;
 use value::UpvalRef;
@@ -12,15 +12,16 @@ pub mod prototypes;
 ghost use mathlib.Core.Path.{_≡_};
 ghost use Prim.Native.Nat.{_+_, _^_, _≤_, _<_};
 ghost use lib.ListN.{length};
+ghost use Rattle.layout.specs.Layout.{layOf};
 ghost use Rattle.main_record.specs.Parts.{Parts};
 ghost use Rattle.main_record.specs.Main.{mainTop, setMainTop, mainOpenCount, setMainOpenCount, mainCi, setMainCi, mainError, setMainError, mainHook, setMainHook, global, setGlobal, registry, setRegistry, modeName, setModeName, gcName, setGcName, typeMeta, setTypeMeta, mainValue, setMainValue, mainOpen, setMainOpen, frameFunction, setFrameFunction};
 
 // The stack below top.
-pub fn main_top(w: &[u32], l: Lay) -> usize
-    requires { ⌜ Parts l (length (now w)) ⌝ }
-    ensures { λ r. ⌜ (r ≡ mainTop l (now (w .entry))) × (r ≤ l .stack .room) ⌝ }
+pub fn main_top(w: &[u32], l: Sizes) -> usize
+    requires { ⌜ Parts (layOf l) (length (now w)) ⌝ }
+    ensures { λ r. ⌜ (r ≡ mainTop (layOf l) (now (w .entry))) × (r ≤ layOf l .stack .room) ⌝ }
 {
-    record::least(record::number_at(w, layout::TOP), l.stack.room)
+    record::least(record::number_at(w, layout::TOP), l.stack)
 }
 
 pub fn set_main_top(w: &mut [u32], n: usize)
@@ -32,11 +33,11 @@ pub fn set_main_top(w: &mut [u32], n: usize)
 }
 
 // How many open upvalues there are.
-pub fn main_open_count(w: &[u32], l: Lay) -> usize
-    requires { ⌜ Parts l (length (now w)) ⌝ }
-    ensures { λ r. ⌜ (r ≡ mainOpenCount l (now (w .entry))) × (r ≤ l .opens .room) ⌝ }
+pub fn main_open_count(w: &[u32], l: Sizes) -> usize
+    requires { ⌜ Parts (layOf l) (length (now w)) ⌝ }
+    ensures { λ r. ⌜ (r ≡ mainOpenCount (layOf l) (now (w .entry))) × (r ≤ layOf l .opens .room) ⌝ }
 {
-    record::least(record::number_at(w, layout::OPENS), l.opens.room)
+    record::least(record::number_at(w, layout::OPENS), l.opens)
 }
 
 pub fn set_main_open_count(w: &mut [u32], n: usize)
@@ -48,11 +49,11 @@ pub fn set_main_open_count(w: &mut [u32], n: usize)
 }
 
 // The current frame.
-pub fn main_ci(w: &[u32], l: Lay) -> usize
-    requires { ⌜ Parts l (length (now w)) ⌝ }
-    ensures { λ r. ⌜ (r ≡ mainCi l (now (w .entry))) × (r < l .frames .room) ⌝ }
+pub fn main_ci(w: &[u32], l: Sizes) -> usize
+    requires { ⌜ Parts (layOf l) (length (now w)) ⌝ }
+    ensures { λ r. ⌜ (r ≡ mainCi (layOf l) (now (w .entry))) × (r < layOf l .frames .room) ⌝ }
 {
-    record::least(record::number_at(w, layout::CI), l.frames.room - 1)
+    record::least(record::number_at(w, layout::CI), l.frames - 1)
 }
 
 pub fn set_main_ci(w: &mut [u32], n: usize)
@@ -167,53 +168,53 @@ pub fn set_type_meta(w: &mut [u32], k: usize, t: TableOr)
 }
 
 // A place of the main stack.
-pub fn main_value(w: &[u32], l: Lay, i: usize) -> Value
-    requires { ⌜ Parts l (length (now w)) ⌝ }
-    requires { ⌜ i < l .stack .room ⌝ }
-    ensures { λ r. ⌜ r ≡ mainValue l i (now (w .entry)) ⌝ }
+pub fn main_value(w: &[u32], l: Sizes, i: usize) -> Value
+    requires { ⌜ Parts (layOf l) (length (now w)) ⌝ }
+    requires { ⌜ i < layOf l .stack .room ⌝ }
+    ensures { λ r. ⌜ r ≡ mainValue (layOf l) i (now (w .entry)) ⌝ }
 {
-    value::read_value(w, l.stack.base + 3 * i)
+    value::read_value(w, layout::stack_at(l) + 3 * i)
 }
 
-pub fn set_main_value(w: &mut [u32], l: Lay, i: usize, v: Value)
-    requires { ⌜ Parts l (length (now w)) ⌝ }
-    requires { ⌜ i < l .stack .room ⌝ }
-    ensures { λ _. ⌜ now (w .exit) ≡ setMainValue l i v (now (w .entry)) ⌝ }
+pub fn set_main_value(w: &mut [u32], l: Sizes, i: usize, v: Value)
+    requires { ⌜ Parts (layOf l) (length (now w)) ⌝ }
+    requires { ⌜ i < layOf l .stack .room ⌝ }
+    ensures { λ _. ⌜ now (w .exit) ≡ setMainValue (layOf l) i v (now (w .entry)) ⌝ }
 {
-    value::write_value(w, l.stack.base + 3 * i, v);
+    value::write_value(w, layout::stack_at(l) + 3 * i, v);
 }
 
 // An upvalue of the main open list.
-pub fn main_open(w: &[u32], l: Lay, i: usize) -> UpvalRef
-    requires { ⌜ Parts l (length (now w)) ⌝ }
-    requires { ⌜ i < l .opens .room ⌝ }
-    ensures { λ r. ⌜ r ≡ mainOpen l i (now (w .entry)) ⌝ }
+pub fn main_open(w: &[u32], l: Sizes, i: usize) -> UpvalRef
+    requires { ⌜ Parts (layOf l) (length (now w)) ⌝ }
+    requires { ⌜ i < layOf l .opens .room ⌝ }
+    ensures { λ r. ⌜ r ≡ mainOpen (layOf l) i (now (w .entry)) ⌝ }
 {
-    record::read_upval(w, l.opens.base + 2 * i)
+    record::read_upval(w, layout::opens_at(l) + 2 * i)
 }
 
-pub fn set_main_open(w: &mut [u32], l: Lay, i: usize, u: UpvalRef)
-    requires { ⌜ Parts l (length (now w)) ⌝ }
-    requires { ⌜ i < l .opens .room ⌝ }
-    ensures { λ _. ⌜ now (w .exit) ≡ setMainOpen l i u (now (w .entry)) ⌝ }
+pub fn set_main_open(w: &mut [u32], l: Sizes, i: usize, u: UpvalRef)
+    requires { ⌜ Parts (layOf l) (length (now w)) ⌝ }
+    requires { ⌜ i < layOf l .opens .room ⌝ }
+    ensures { λ _. ⌜ now (w .exit) ≡ setMainOpen (layOf l) i u (now (w .entry)) ⌝ }
 {
-    record::write_upval(w, l.opens.base + 2 * i, u);
+    record::write_upval(w, layout::opens_at(l) + 2 * i, u);
 }
 
 // The function index of frame i.
-pub fn frame_function(w: &[u32], l: Lay, i: usize) -> usize
-    requires { ⌜ Parts l (length (now w)) ⌝ }
-    requires { ⌜ i < l .frames .room ⌝ }
-    ensures { λ r. ⌜ (r ≡ frameFunction l i (now (w .entry))) × (r < 2 ^ 32) ⌝ }
+pub fn frame_function(w: &[u32], l: Sizes, i: usize) -> usize
+    requires { ⌜ Parts (layOf l) (length (now w)) ⌝ }
+    requires { ⌜ i < layOf l .frames .room ⌝ }
+    ensures { λ r. ⌜ (r ≡ frameFunction (layOf l) i (now (w .entry))) × (r < 2 ^ 32) ⌝ }
 {
-    record::number_at(w, l.frames.base + i)
+    record::number_at(w, layout::frames_at(l) + i)
 }
 
-pub fn set_frame_function(w: &mut [u32], l: Lay, i: usize, n: usize)
-    requires { ⌜ Parts l (length (now w)) ⌝ }
-    requires { ⌜ i < l .frames .room ⌝ }
+pub fn set_frame_function(w: &mut [u32], l: Sizes, i: usize, n: usize)
+    requires { ⌜ Parts (layOf l) (length (now w)) ⌝ }
+    requires { ⌜ i < layOf l .frames .room ⌝ }
     requires { ⌜ n ≤ 256 ⌝ }
-    ensures { λ _. ⌜ now (w .exit) ≡ setFrameFunction l i n (now (w .entry)) ⌝ }
+    ensures { λ _. ⌜ now (w .exit) ≡ setFrameFunction (layOf l) i n (now (w .entry)) ⌝ }
 {
-    record::put_number(w, l.frames.base + i, n);
+    record::put_number(w, layout::frames_at(l) + i, n);
 }

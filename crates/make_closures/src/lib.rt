@@ -1,13 +1,14 @@
 // The calls that make a closure (document 01, 'Sizes' and 'Refusal numbers'). Each gives 1 and 8 first, then 4, 2, 6 and 3, and
 // changes nothing that way; damage found on the way is marked, and is 8. A closure never changes once made.
-use layout::Lay;
 use layout::Opened;
+use layout::Sizes;
 use making::Made;
 use value::TableOr;
 use value::TableRef;
 ghost use mathlib.Core.Path.{_≡_};
 ghost use Prim.Native.Nat.{_≤_, _<_};
 ghost use lib.ListN.{length};
+ghost use Rattle.layout.specs.Layout.{layOf};
 ghost use Rattle.base.specs.Heap.{heap};
 ghost use Rattle.laid.specs.Laid.{Laid};
 ghost use Rattle.make_closures.specs.Making.{upvaluesFit, valuesFit, luaSound, luaIn, makeLuaClosure, rustSound, rustIn, makeRustClosure};
@@ -27,21 +28,21 @@ fn values_fit(n: usize) -> bool
 }
 
 // Env, the upvalues, and the constants of the prototype and of all nested ones name what they say.
-fn lua_sound(w: &[u32], l: Lay, proto: usize, env: TableRef, s: &[u32]) -> bool
-    requires { ⌜ Laid l ⌝ }
-    requires { ⌜ l .words ≤ length (now w) ⌝ }
-    requires { ⌜ proto < l .protos .room ⌝ }
-    ensures { λ r. ⌜ r ≡ luaSound proto env (now (s .entry)) l (now (w .entry)) ⌝ }
+fn lua_sound(w: &[u32], l: Sizes, proto: usize, env: TableRef, s: &[u32]) -> bool
+    requires { ⌜ Laid (layOf l) ⌝ }
+    requires { ⌜ layOf l .words ≤ length (now w) ⌝ }
+    requires { ⌜ proto < layOf l .protos .room ⌝ }
+    ensures { λ r. ⌜ r ≡ luaSound proto env (now (s .entry)) (layOf l) (now (w .entry)) ⌝ }
 {
     given::is_table(w, l, env)
         & sound::are_upvalues(w, l, s, s.len() / 2)
         & sound::is_proto_sound(w, l, proto)
 }
 
-fn lua_in(w: &mut [u32], l: Lay, proto: u32, env: TableRef, s: &[u32]) -> Made
-    requires { ⌜ Laid l ⌝ }
-    requires { ⌜ l .words ≤ length (now w) ⌝ }
-    ensures { λ r. ⌜ (r, now (w .exit)) ≡ luaIn proto env (now (s .entry)) l (now (w .entry)) ⌝ }
+fn lua_in(w: &mut [u32], l: Sizes, proto: u32, env: TableRef, s: &[u32]) -> Made
+    requires { ⌜ Laid (layOf l) ⌝ }
+    requires { ⌜ layOf l .words ≤ length (now w) ⌝ }
+    ensures { λ r. ⌜ (r, now (w .exit)) ≡ luaIn proto env (now (s .entry)) (layOf l) (now (w .entry)) ⌝ }
 {
     let n = base::wide(proto);
     if main_record::prototypes::protos_used(w, l) <= n {
@@ -73,18 +74,18 @@ pub fn make_lua_closure(
 }
 
 // Env, if any, and the values name what they say.
-fn rust_sound(w: &[u32], l: Lay, env: TableOr, s: &[u32]) -> bool
-    requires { ⌜ Laid l ⌝ }
-    requires { ⌜ l .words ≤ length (now w) ⌝ }
-    ensures { λ r. ⌜ r ≡ rustSound env (now (s .entry)) l (now (w .entry)) ⌝ }
+fn rust_sound(w: &[u32], l: Sizes, env: TableOr, s: &[u32]) -> bool
+    requires { ⌜ Laid (layOf l) ⌝ }
+    requires { ⌜ layOf l .words ≤ length (now w) ⌝ }
+    ensures { λ r. ⌜ r ≡ rustSound env (now (s .entry)) (layOf l) (now (w .entry)) ⌝ }
 {
     given::is_table_or(w, l, env) & sound::are_sound(w, l, s, 0, s.len() / 3)
 }
 
-fn rust_in(w: &mut [u32], l: Lay, env: TableOr, s: &[u32]) -> Made
-    requires { ⌜ Laid l ⌝ }
-    requires { ⌜ l .words ≤ length (now w) ⌝ }
-    ensures { λ r. ⌜ (r, now (w .exit)) ≡ rustIn env (now (s .entry)) l (now (w .entry)) ⌝ }
+fn rust_in(w: &mut [u32], l: Sizes, env: TableOr, s: &[u32]) -> Made
+    requires { ⌜ Laid (layOf l) ⌝ }
+    requires { ⌜ layOf l .words ≤ length (now w) ⌝ }
+    ensures { λ r. ⌜ (r, now (w .exit)) ≡ rustIn env (now (s .entry)) (layOf l) (now (w .entry)) ⌝ }
 {
     if !values_fit(s.len()) {
         return Made::Refused(4);

@@ -1,11 +1,12 @@
 // The call that makes a prototype (document 01, 'Sizes' and 'Refusal numbers'): it is made in one call and never changed. It
 // gives 1 and 8 first, then 4, 2 and 3, and changes nothing that way.
-use layout::Lay;
 use layout::Opened;
+use layout::Sizes;
 use making::Made;
 ghost use mathlib.Core.Path.{_≡_};
 ghost use Prim.Native.Nat.{_*_, _/_, _≤_, _<_};
 ghost use lib.ListN.{length};
+ghost use Rattle.layout.specs.Layout.{layOf};
 ghost use Rattle.base.specs.Heap.{heap};
 ghost use Rattle.laid.specs.Laid.{Laid};
 ghost use Rattle.make_protos.specs.Making.{lengthsFit, isFirst, canNest, areNestable, Below, nestOne, putNested, putProto, protoIn, makeProto};
@@ -33,11 +34,11 @@ fn is_first(s: &[u32], k: usize) -> bool
 }
 
 // Whether the k-th number of s is that of a prototype made, with no parent, and named once.
-fn can_nest(w: &[u32], l: Lay, s: &[u32], k: usize) -> bool
-    requires { ⌜ Laid l ⌝ }
-    requires { ⌜ l .words ≤ length (now w) ⌝ }
+fn can_nest(w: &[u32], l: Sizes, s: &[u32], k: usize) -> bool
+    requires { ⌜ Laid (layOf l) ⌝ }
+    requires { ⌜ layOf l .words ≤ length (now w) ⌝ }
     requires { ⌜ k < length (now s) ⌝ }
-    ensures { λ r. ⌜ r ≡ canNest l (now (w .entry)) (now (s .entry)) k ⌝ }
+    ensures { λ r. ⌜ r ≡ canNest (layOf l) (now (w .entry)) (now (s .entry)) k ⌝ }
 {
     let n = base::wide(base::get(s, k));
     if main_record::prototypes::protos_used(w, l) <= n {
@@ -49,10 +50,10 @@ fn can_nest(w: &[u32], l: Lay, s: &[u32], k: usize) -> bool
     is_first(s, k)
 }
 
-fn are_nestable(w: &[u32], l: Lay, s: &[u32]) -> bool
-    requires { ⌜ Laid l ⌝ }
-    requires { ⌜ l .words ≤ length (now w) ⌝ }
-    ensures { λ r. ⌜ r ≡ areNestable l (now (w .entry)) (now (s .entry)) ⌝ }
+fn are_nestable(w: &[u32], l: Sizes, s: &[u32]) -> bool
+    requires { ⌜ Laid (layOf l) ⌝ }
+    requires { ⌜ layOf l .words ≤ length (now w) ⌝ }
+    ensures { λ r. ⌜ r ≡ areNestable (layOf l) (now (w .entry)) (now (s .entry)) ⌝ }
 {
     let n = s.len();
     let mut k: usize = 0;
@@ -66,24 +67,24 @@ fn are_nestable(w: &[u32], l: Lay, s: &[u32]) -> bool
 }
 
 // The k-th number of s is nested in n, which is its parent.
-fn nest_one(w: &mut [u32], l: Lay, n: usize, s: &[u32], k: usize)
-    requires { ⌜ Laid l ⌝ }
-    requires { ⌜ l .words ≤ length (now w) ⌝ }
-    requires { ⌜ (n < l .protos .room) × (k < 8) × (k < length (now s)) ⌝ }
-    requires { ⌜ Below (l .protos .room) (now s) ⌝ }
-    ensures { λ _. ⌜ now (w .exit) ≡ nestOne l n (now (s .entry)) k (now (w .entry)) ⌝ }
+fn nest_one(w: &mut [u32], l: Sizes, n: usize, s: &[u32], k: usize)
+    requires { ⌜ Laid (layOf l) ⌝ }
+    requires { ⌜ layOf l .words ≤ length (now w) ⌝ }
+    requires { ⌜ (n < layOf l .protos .room) × (k < 8) × (k < length (now s)) ⌝ }
+    requires { ⌜ Below (layOf l .protos .room) (now s) ⌝ }
+    ensures { λ _. ⌜ now (w .exit) ≡ nestOne (layOf l) n (now (s .entry)) k (now (w .entry)) ⌝ }
 {
     let q = base::wide(base::get(s, k));
     main_record::prototypes::set_proto_child(w, l, n, k, q);
     main_record::prototypes::set_proto_parent(w, l, q, n + 1);
 }
 
-fn put_nested(w: &mut [u32], l: Lay, n: usize, s: &[u32])
-    requires { ⌜ Laid l ⌝ }
-    requires { ⌜ l .words ≤ length (now w) ⌝ }
-    requires { ⌜ (n < l .protos .room) × (length (now s) ≤ 8) ⌝ }
-    requires { ⌜ Below (l .protos .room) (now s) ⌝ }
-    ensures { λ _. ⌜ now (w .exit) ≡ putNested l n (now (s .entry)) (now (w .entry)) ⌝ }
+fn put_nested(w: &mut [u32], l: Sizes, n: usize, s: &[u32])
+    requires { ⌜ Laid (layOf l) ⌝ }
+    requires { ⌜ layOf l .words ≤ length (now w) ⌝ }
+    requires { ⌜ (n < layOf l .protos .room) × (length (now s) ≤ 8) ⌝ }
+    requires { ⌜ Below (layOf l .protos .room) (now s) ⌝ }
+    ensures { λ _. ⌜ now (w .exit) ≡ putNested (layOf l) n (now (s .entry)) (now (w .entry)) ⌝ }
 {
     let m = s.len();
     let mut k: usize = 0;
@@ -94,14 +95,14 @@ fn put_nested(w: &mut [u32], l: Lay, n: usize, s: &[u32])
 }
 
 // Prototype n, with every word of its record, is written, and n + 1 numbers are used.
-fn put_proto(w: &mut [u32], l: Lay, n: usize, constants: &[u32], nested: &[u32])
-    requires { ⌜ Laid l ⌝ }
-    requires { ⌜ l .words ≤ length (now w) ⌝ }
-    requires { ⌜ (n < l .protos .room) × (length (now constants) ≤ 48) × (length (now nested) ≤ 8) ⌝ }
-    requires { ⌜ Below (l .protos .room) (now nested) ⌝ }
-    ensures { λ _. ⌜ now (w .exit) ≡ putProto l n (now (constants .entry)) (now (nested .entry)) (now (w .entry)) ⌝ }
+fn put_proto(w: &mut [u32], l: Sizes, n: usize, constants: &[u32], nested: &[u32])
+    requires { ⌜ Laid (layOf l) ⌝ }
+    requires { ⌜ layOf l .words ≤ length (now w) ⌝ }
+    requires { ⌜ (n < layOf l .protos .room) × (length (now constants) ≤ 48) × (length (now nested) ≤ 8) ⌝ }
+    requires { ⌜ Below (layOf l .protos .room) (now nested) ⌝ }
+    ensures { λ _. ⌜ now (w .exit) ≡ putProto (layOf l) n (now (constants .entry)) (now (nested .entry)) (now (w .entry)) ⌝ }
 {
-    let p = l.protos.base + 59 * n;
+    let p = layout::protos_at(l) + 59 * n;
     let k = constants.len() / 3;
     base::clear_words(w, p, layout::PROTO_WORDS);
     main_record::prototypes::set_proto_counts(w, l, n, k, nested.len());
@@ -110,10 +111,10 @@ fn put_proto(w: &mut [u32], l: Lay, n: usize, constants: &[u32], nested: &[u32])
     main_record::prototypes::set_protos_used(w, n + 1);
 }
 
-fn proto_in(w: &mut [u32], l: Lay, constants: &[u32], nested: &[u32]) -> Made
-    requires { ⌜ Laid l ⌝ }
-    requires { ⌜ l .words ≤ length (now w) ⌝ }
-    ensures { λ r. ⌜ (r, now (w .exit)) ≡ protoIn (now (constants .entry)) (now (nested .entry)) l (now (w .entry)) ⌝ }
+fn proto_in(w: &mut [u32], l: Sizes, constants: &[u32], nested: &[u32]) -> Made
+    requires { ⌜ Laid (layOf l) ⌝ }
+    requires { ⌜ layOf l .words ≤ length (now w) ⌝ }
+    ensures { λ r. ⌜ (r, now (w .exit)) ≡ protoIn (now (constants .entry)) (now (nested .entry)) (layOf l) (now (w .entry)) ⌝ }
 {
     if !lengths_fit(constants, nested) {
         return Made::Refused(4);
@@ -125,7 +126,7 @@ fn proto_in(w: &mut [u32], l: Lay, constants: &[u32], nested: &[u32]) -> Made
         return Made::Refused(2);
     }
     let n = main_record::prototypes::protos_used(w, l);
-    if l.protos.room <= n {
+    if l.protos <= n {
         return Made::Refused(3);
     }
     put_proto(w, l, n, constants, nested);

@@ -1,14 +1,15 @@
 // The call that makes a string (document 01, 'Sizes' and 'Refusal numbers'): found by its bytes, or new. It gives 1 and 8
 // first, then 4; a string already present answers its handle, never 6 or 3; a new one gives 6, then 3.
 use arena::Arena;
-use layout::Lay;
 use layout::Opened;
+use layout::Sizes;
 use making::Made;
 use making::New;
 use value::StrRef;
 ghost use mathlib.Core.Path.{_≡_};
 ghost use Prim.Native.Nat.{_*_, _+_, _≤_, _<_};
 ghost use lib.ListN.{length};
+ghost use Rattle.layout.specs.Layout.{layOf};
 ghost use Rattle.base.specs.Heap.{heap};
 ghost use Rattle.arena.specs.Slots.{Room};
 ghost use Rattle.laid.specs.Laid.{Laid};
@@ -21,28 +22,29 @@ pub enum Found {
 }
 
 // Whether slot i is occupied and holds these bytes.
-fn holds(w: &[u32], b: &[u8], l: Lay, s: &[u8], i: usize) -> bool
-    requires { ⌜ Laid l ⌝ }
-    requires { ⌜ l .words ≤ length (now w) ⌝ }
-    requires { ⌜ l .bytes ≤ length (now b) ⌝ }
-    requires { ⌜ i < l .strings .slots ⌝ }
-    ensures { λ r. ⌜ r ≡ holds l (now (s .entry)) (heap (now (w .entry)) (now (b .entry))) i ⌝ }
+fn holds(w: &[u32], b: &[u8], l: Sizes, s: &[u8], i: usize) -> bool
+    requires { ⌜ Laid (layOf l) ⌝ }
+    requires { ⌜ layOf l .words ≤ length (now w) ⌝ }
+    requires { ⌜ layOf l .bytes ≤ length (now b) ⌝ }
+    requires { ⌜ i < layOf l .strings .slots ⌝ }
+    ensures { λ r. ⌜ r ≡ holds (layOf l) (now (s .entry)) (heap (now (w .entry)) (now (b .entry))) i ⌝ }
 {
-    if arena::colour_of(w, l.strings, i) == 0 {
+    let strings = layout::strings_of(l);
+    if arena::colour_of(w, strings, i) == 0 {
         return false;
     }
-    let n = record::strings::string_length(w, record::body_of(w, l.strings, i));
+    let n = record::strings::string_length(w, record::body_of(w, strings, i));
     record::strings::same_bytes(record::strings::text(b, i, n), s)
 }
 
 // The first slot that does.
-fn find_string(w: &[u32], b: &[u8], l: Lay, s: &[u8]) -> Found
-    requires { ⌜ Laid l ⌝ }
-    requires { ⌜ l .words ≤ length (now w) ⌝ }
-    requires { ⌜ l .bytes ≤ length (now b) ⌝ }
-    ensures { λ r. ⌜ (r ≡ findString l (now (s .entry)) (heap (now (w .entry)) (now (b .entry)))) × Below r (l .strings .slots) ⌝ }
+fn find_string(w: &[u32], b: &[u8], l: Sizes, s: &[u8]) -> Found
+    requires { ⌜ Laid (layOf l) ⌝ }
+    requires { ⌜ layOf l .words ≤ length (now w) ⌝ }
+    requires { ⌜ layOf l .bytes ≤ length (now b) ⌝ }
+    ensures { λ r. ⌜ (r ≡ findString (layOf l) (now (s .entry)) (heap (now (w .entry)) (now (b .entry)))) × Below r (layOf l .strings .slots) ⌝ }
 {
-    let end = arena::used_of(w, l.strings);
+    let end = arena::used_of(w, layout::strings_of(l));
     let mut i: usize = 0;
     while i < end {
         if holds(w, b, l, s, i) {
@@ -65,14 +67,15 @@ fn keep(w: &mut [u32], a: Arena, i: usize)
     }
 }
 
-fn found_string(w: &mut [u32], l: Lay, i: usize) -> Made
-    requires { ⌜ Laid l ⌝ }
-    requires { ⌜ l .words ≤ length (now w) ⌝ }
-    requires { ⌜ i < l .strings .slots ⌝ }
-    ensures { λ r. ⌜ (r, now (w .exit)) ≡ foundString l i (now (w .entry)) ⌝ }
+fn found_string(w: &mut [u32], l: Sizes, i: usize) -> Made
+    requires { ⌜ Laid (layOf l) ⌝ }
+    requires { ⌜ layOf l .words ≤ length (now w) ⌝ }
+    requires { ⌜ i < layOf l .strings .slots ⌝ }
+    ensures { λ r. ⌜ (r, now (w .exit)) ≡ foundString (layOf l) i (now (w .entry)) ⌝ }
 {
-    let g = arena::generation_of(w, l.strings, i);
-    keep(w, l.strings, i);
+    let strings = layout::strings_of(l);
+    let g = arena::generation_of(w, strings, i);
+    keep(w, strings, i);
     Made::Str(StrRef(i as u32, g))
 }
 
@@ -86,14 +89,19 @@ fn put_text(b: &mut [u8], i: usize, s: &[u8])
     record::strings::text_put(b, i, s);
 }
 
-fn new_string(w: &mut [u32], b: &mut [u8], l: Lay, s: &[u8]) -> Made
-    requires { ⌜ Laid l ⌝ }
-    requires { ⌜ l .words ≤ length (now w) ⌝ }
-    requires { ⌜ l .bytes ≤ length (now b) ⌝ }
+fn new_string(w: &mut [u32], b: &mut [u8], l: Sizes, s: &[u8]) -> Made
+    requires { ⌜ Laid (layOf l) ⌝ }
+    requires { ⌜ layOf l .words ≤ length (now w) ⌝ }
+    requires { ⌜ layOf l .bytes ≤ length (now b) ⌝ }
     requires { ⌜ length (now s) ≤ 64 ⌝ }
-    ensures { λ r. ⌜ (r, heap (now (w .exit)) (now (b .exit))) ≡ newString (now (s .entry)) l (heap (now (w .entry)) (now (b .entry))) ⌝ }
+    ensures { λ r. ⌜ (r, heap (now (w .exit)) (now (b .exit))) ≡ newString (now (s .entry)) (layOf l) (heap (now (w .entry)) (now (b .entry))) ⌝ }
 {
-    match making::new_object(w, l.strings, making::STRING, layout::STRING_WORDS) {
+    match making::new_object(
+        w,
+        layout::strings_of(l),
+        making::STRING,
+        layout::STRING_WORDS,
+    ) {
         New::At(i, g, p) => {
             record::strings::set_string_length(w, p, s.len());
             put_text(b, base::wide(i), s);
@@ -103,11 +111,11 @@ fn new_string(w: &mut [u32], b: &mut [u8], l: Lay, s: &[u8]) -> Made
     }
 }
 
-fn string_in(w: &mut [u32], b: &mut [u8], l: Lay, s: &[u8]) -> Made
-    requires { ⌜ Laid l ⌝ }
-    requires { ⌜ l .words ≤ length (now w) ⌝ }
-    requires { ⌜ l .bytes ≤ length (now b) ⌝ }
-    ensures { λ r. ⌜ (r, heap (now (w .exit)) (now (b .exit))) ≡ stringIn (now (s .entry)) l (heap (now (w .entry)) (now (b .entry))) ⌝ }
+fn string_in(w: &mut [u32], b: &mut [u8], l: Sizes, s: &[u8]) -> Made
+    requires { ⌜ Laid (layOf l) ⌝ }
+    requires { ⌜ layOf l .words ≤ length (now w) ⌝ }
+    requires { ⌜ layOf l .bytes ≤ length (now b) ⌝ }
+    ensures { λ r. ⌜ (r, heap (now (w .exit)) (now (b .exit))) ≡ stringIn (now (s .entry)) (layOf l) (heap (now (w .entry)) (now (b .entry))) ⌝ }
 {
     if 64 < s.len() {
         return Made::Refused(4);

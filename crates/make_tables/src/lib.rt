@@ -1,7 +1,7 @@
 // The calls that make a table or a userdata (document 01, 'Sizes'). Each gives 1 and 8 first, then the refusals of its row in
 // their order, and changes nothing that way; damage found on the way is marked, and is 8.
-use layout::Lay;
 use layout::Opened;
+use layout::Sizes;
 use making::Made;
 use making::New;
 use value::TableRef;
@@ -9,6 +9,7 @@ use value::UdRef;
 ghost use mathlib.Core.Path.{_≡_};
 ghost use Prim.Native.Nat.{_≤_};
 ghost use lib.ListN.{length};
+ghost use Rattle.layout.specs.Layout.{layOf};
 ghost use Rattle.base.specs.Heap.{heap};
 ghost use Rattle.laid.specs.Laid.{Laid};
 ghost use Rattle.make_tables.specs.Making.{isNodes, newTable, tableIn, makeTable, userdataIn, makeUserdata};
@@ -20,14 +21,14 @@ fn is_nodes(n: u32) -> bool
     (n == 0) | (n == 1) | (n == 2) | (n == 4) | (n == 8) | (n == 16) | (n == 32) | (n == 64)
 }
 
-fn new_table(w: &mut [u32], l: Lay, array: usize, nodes: usize) -> Made
-    requires { ⌜ Laid l ⌝ }
-    requires { ⌜ l .words ≤ length (now w) ⌝ }
+fn new_table(w: &mut [u32], l: Sizes, array: usize, nodes: usize) -> Made
+    requires { ⌜ Laid (layOf l) ⌝ }
+    requires { ⌜ layOf l .words ≤ length (now w) ⌝ }
     requires { ⌜ (array ≤ 64) × (nodes ≤ 64) ⌝ }
-    ensures { λ r. ⌜ (r, now (w .exit)) ≡ newTable array nodes l (now (w .entry)) ⌝ }
+    ensures { λ r. ⌜ (r, now (w .exit)) ≡ newTable array nodes (layOf l) (now (w .entry)) ⌝ }
 {
     let n = record::tables::table_extent(array, nodes);
-    match making::new_object(w, l.tables, making::TABLE, n) {
+    match making::new_object(w, layout::tables_of(l), making::TABLE, n) {
         New::At(i, g, p) => {
             record::tables::set_table_sizes(w, p, array, nodes);
             Made::Table(TableRef(i, g))
@@ -36,10 +37,10 @@ fn new_table(w: &mut [u32], l: Lay, array: usize, nodes: usize) -> Made
     }
 }
 
-fn table_in(w: &mut [u32], l: Lay, array: u32, nodes: u32) -> Made
-    requires { ⌜ Laid l ⌝ }
-    requires { ⌜ l .words ≤ length (now w) ⌝ }
-    ensures { λ r. ⌜ (r, now (w .exit)) ≡ tableIn array nodes l (now (w .entry)) ⌝ }
+fn table_in(w: &mut [u32], l: Sizes, array: u32, nodes: u32) -> Made
+    requires { ⌜ Laid (layOf l) ⌝ }
+    requires { ⌜ layOf l .words ≤ length (now w) ⌝ }
+    ensures { λ r. ⌜ (r, now (w .exit)) ≡ tableIn array nodes (layOf l) (now (w .entry)) ⌝ }
 {
     if 64 < array {
         return Made::Refused(4);
@@ -60,12 +61,17 @@ pub fn make_table(w: &mut [u32], b: &[u8], array: u32, nodes: u32) -> Made
     }
 }
 
-fn userdata_in(w: &mut [u32], l: Lay) -> Made
-    requires { ⌜ Laid l ⌝ }
-    requires { ⌜ l .words ≤ length (now w) ⌝ }
-    ensures { λ r. ⌜ (r, now (w .exit)) ≡ userdataIn l (now (w .entry)) ⌝ }
+fn userdata_in(w: &mut [u32], l: Sizes) -> Made
+    requires { ⌜ Laid (layOf l) ⌝ }
+    requires { ⌜ layOf l .words ≤ length (now w) ⌝ }
+    ensures { λ r. ⌜ (r, now (w .exit)) ≡ userdataIn (layOf l) (now (w .entry)) ⌝ }
 {
-    match making::new_object(w, l.userdata, making::USERDATA, layout::USERDATA_WORDS) {
+    match making::new_object(
+        w,
+        layout::userdata_of(l),
+        making::USERDATA,
+        layout::USERDATA_WORDS,
+    ) {
         New::At(i, g, p) => {
             let number = base::get64(w, layout::CREATION);
             record::userdata::set_ud_creation(w, p, number);

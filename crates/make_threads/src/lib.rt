@@ -1,7 +1,7 @@
 // The calls that make an upvalue or a thread (document 01, 'Sizes'). Each gives 1 and 8 first, then the refusals of its row in
 // their order, and changes nothing that way; damage found on the way is marked, and is 8.
-use layout::Lay;
 use layout::Opened;
+use layout::Sizes;
 use making::Made;
 use making::New;
 use value::TableOr;
@@ -12,16 +12,22 @@ use value::Value;
 ghost use mathlib.Core.Path.{_≡_};
 ghost use Prim.Native.Nat.{_≤_};
 ghost use lib.ListN.{length};
+ghost use Rattle.layout.specs.Layout.{layOf};
 ghost use Rattle.base.specs.Heap.{heap};
 ghost use Rattle.laid.specs.Laid.{Laid};
 ghost use Rattle.make_threads.specs.Making.{newUpvalue, makeOpenUpvalue, closedIn, makeClosedUpvalue, newThread, threadIn, makeThread};
 
-fn new_upvalue(w: &mut [u32], l: Lay, closed: bool, v: Value) -> Made
-    requires { ⌜ Laid l ⌝ }
-    requires { ⌜ l .words ≤ length (now w) ⌝ }
-    ensures { λ r. ⌜ (r, now (w .exit)) ≡ newUpvalue closed v l (now (w .entry)) ⌝ }
+fn new_upvalue(w: &mut [u32], l: Sizes, closed: bool, v: Value) -> Made
+    requires { ⌜ Laid (layOf l) ⌝ }
+    requires { ⌜ layOf l .words ≤ length (now w) ⌝ }
+    ensures { λ r. ⌜ (r, now (w .exit)) ≡ newUpvalue closed v (layOf l) (now (w .entry)) ⌝ }
 {
-    match making::new_object(w, l.upvalues, making::UPVALUE, layout::UPVALUE_WORDS) {
+    match making::new_object(
+        w,
+        layout::upvalues_of(l),
+        making::UPVALUE,
+        layout::UPVALUE_WORDS,
+    ) {
         New::At(i, g, p) => {
             run_record::upvalues::set_closed(w, p, closed);
             run_record::upvalues::set_upvalue_value(w, p, v);
@@ -41,10 +47,10 @@ pub fn make_open_upvalue(w: &mut [u32], b: &[u8]) -> Made
     }
 }
 
-fn closed_in(w: &mut [u32], l: Lay, v: Value) -> Made
-    requires { ⌜ Laid l ⌝ }
-    requires { ⌜ l .words ≤ length (now w) ⌝ }
-    ensures { λ r. ⌜ (r, now (w .exit)) ≡ closedIn v l (now (w .entry)) ⌝ }
+fn closed_in(w: &mut [u32], l: Sizes, v: Value) -> Made
+    requires { ⌜ Laid (layOf l) ⌝ }
+    requires { ⌜ layOf l .words ≤ length (now w) ⌝ }
+    ensures { λ r. ⌜ (r, now (w .exit)) ≡ closedIn v (layOf l) (now (w .entry)) ⌝ }
 {
     if given::is_sound(w, l, v) {
         return new_upvalue(w, l, true, v);
@@ -62,14 +68,14 @@ pub fn make_closed_upvalue(w: &mut [u32], b: &[u8], v: Value) -> Made
     }
 }
 
-fn new_thread(w: &mut [u32], l: Lay, global: TableRef, stack: usize) -> Made
-    requires { ⌜ Laid l ⌝ }
-    requires { ⌜ l .words ≤ length (now w) ⌝ }
+fn new_thread(w: &mut [u32], l: Sizes, global: TableRef, stack: usize) -> Made
+    requires { ⌜ Laid (layOf l) ⌝ }
+    requires { ⌜ layOf l .words ≤ length (now w) ⌝ }
     requires { ⌜ stack ≤ 64 ⌝ }
-    ensures { λ r. ⌜ (r, now (w .exit)) ≡ newThread global stack l (now (w .entry)) ⌝ }
+    ensures { λ r. ⌜ (r, now (w .exit)) ≡ newThread global stack (layOf l) (now (w .entry)) ⌝ }
 {
     let n = run_record::threads::thread_extent(stack);
-    match making::new_object(w, l.threads, making::THREAD, n) {
+    match making::new_object(w, layout::threads_of(l), making::THREAD, n) {
         New::At(i, g, p) => {
             run_record::threads::set_thread_global(w, p, TableOr::Present(global));
             run_record::threads::set_thread_size(w, p, stack);
@@ -79,10 +85,10 @@ fn new_thread(w: &mut [u32], l: Lay, global: TableRef, stack: usize) -> Made
     }
 }
 
-fn thread_in(w: &mut [u32], l: Lay, global: TableRef, stack: u32) -> Made
-    requires { ⌜ Laid l ⌝ }
-    requires { ⌜ l .words ≤ length (now w) ⌝ }
-    ensures { λ r. ⌜ (r, now (w .exit)) ≡ threadIn global stack l (now (w .entry)) ⌝ }
+fn thread_in(w: &mut [u32], l: Sizes, global: TableRef, stack: u32) -> Made
+    requires { ⌜ Laid (layOf l) ⌝ }
+    requires { ⌜ layOf l .words ≤ length (now w) ⌝ }
+    ensures { λ r. ⌜ (r, now (w .exit)) ≡ threadIn global stack (layOf l) (now (w .entry)) ⌝ }
 {
     if 64 < stack {
         return Made::Refused(4);

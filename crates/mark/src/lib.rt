@@ -2,8 +2,8 @@
 // no links and is black; a table, closure or thread is gray until it is traversed; a userdata or upvalue is black and its
 // links are marked with it. A handle that names no occupied slot has no colour, so nothing is marked by it.
 use arena::Arena;
-use layout::Lay;
 use layout::List;
+use layout::Sizes;
 use lists::Item;
 use value::FuncRef;
 use value::StrRef;
@@ -16,6 +16,7 @@ use value::Value;
 ghost use mathlib.Core.Path.{_≡_};
 ghost use Prim.Native.Nat.{_+_, _*_, _≤_, _<_};
 ghost use lib.ListN.{length};
+ghost use Rattle.layout.specs.Layout.{layOf};
 ghost use Rattle.arena.specs.Slots.{Room};
 ghost use Rattle.lists.specs.Lists.{RoomFor};
 ghost use Rattle.value.specs.Values.{isNil, valueOf, valueAt};
@@ -70,46 +71,67 @@ fn mark_gray(w: &mut [u32], a: Arena, g: List, index: u32, generation: u32, x: I
     }
 }
 
-pub fn mark_string(w: &mut [u32], l: Lay, r: StrRef)
-    requires { ⌜ Laid l ⌝ }
-    requires { ⌜ l .words ≤ length (now w) ⌝ }
-    ensures { λ _. ⌜ now (w .exit) ≡ markString (ops l) r (now (w .entry)) ⌝ }
+pub fn mark_string(w: &mut [u32], l: Sizes, r: StrRef)
+    requires { ⌜ Laid (layOf l) ⌝ }
+    requires { ⌜ layOf l .words ≤ length (now w) ⌝ }
+    ensures { λ _. ⌜ now (w .exit) ≡ markString (ops (layOf l)) r (now (w .entry)) ⌝ }
 {
-    let a = l.strings;
+    let a = layout::strings_of(l);
     if is_white(shade(w, a, r.0, r.1)) {
         arena::set_colour(w, a, base::wide(r.0), 4);
     }
 }
 
-pub fn mark_table(w: &mut [u32], l: Lay, r: TableRef)
-    requires { ⌜ Laid l ⌝ }
-    requires { ⌜ l .words ≤ length (now w) ⌝ }
-    ensures { λ _. ⌜ now (w .exit) ≡ markTable (ops l) r (now (w .entry)) ⌝ }
+pub fn mark_table(w: &mut [u32], l: Sizes, r: TableRef)
+    requires { ⌜ Laid (layOf l) ⌝ }
+    requires { ⌜ layOf l .words ≤ length (now w) ⌝ }
+    ensures { λ _. ⌜ now (w .exit) ≡ markTable (ops (layOf l)) r (now (w .entry)) ⌝ }
 {
-    mark_gray(w, l.tables, l.gray, r.0, r.1, Item::Table(r));
+    mark_gray(
+        w,
+        layout::tables_of(l),
+        layout::gray_of(l),
+        r.0,
+        r.1,
+        Item::Table(r),
+    );
 }
 
-pub fn mark_closure(w: &mut [u32], l: Lay, r: FuncRef)
-    requires { ⌜ Laid l ⌝ }
-    requires { ⌜ l .words ≤ length (now w) ⌝ }
-    ensures { λ _. ⌜ now (w .exit) ≡ markClosure (ops l) r (now (w .entry)) ⌝ }
+pub fn mark_closure(w: &mut [u32], l: Sizes, r: FuncRef)
+    requires { ⌜ Laid (layOf l) ⌝ }
+    requires { ⌜ layOf l .words ≤ length (now w) ⌝ }
+    ensures { λ _. ⌜ now (w .exit) ≡ markClosure (ops (layOf l)) r (now (w .entry)) ⌝ }
 {
-    mark_gray(w, l.functions, l.gray, r.0, r.1, Item::Function(r));
+    mark_gray(
+        w,
+        layout::functions_of(l),
+        layout::gray_of(l),
+        r.0,
+        r.1,
+        Item::Function(r),
+    );
 }
 
-pub fn mark_thread(w: &mut [u32], l: Lay, r: ThreadRef)
-    requires { ⌜ Laid l ⌝ }
-    requires { ⌜ l .words ≤ length (now w) ⌝ }
-    ensures { λ _. ⌜ now (w .exit) ≡ markThread (ops l) r (now (w .entry)) ⌝ }
+pub fn mark_thread(w: &mut [u32], l: Sizes, r: ThreadRef)
+    requires { ⌜ Laid (layOf l) ⌝ }
+    requires { ⌜ layOf l .words ≤ length (now w) ⌝ }
+    ensures { λ _. ⌜ now (w .exit) ≡ markThread (ops (layOf l)) r (now (w .entry)) ⌝ }
 {
-    mark_gray(w, l.threads, l.gray, r.0, r.1, Item::Thread(r));
+    mark_gray(
+        w,
+        layout::threads_of(l),
+        layout::gray_of(l),
+        r.0,
+        r.1,
+        Item::Thread(r),
+    );
 }
 
 // A table that may be missing.
-pub fn mark_table_or(w: &mut [u32], l: Lay, t: TableOr)
-    requires { ⌜ Laid l ⌝ }
-    requires { ⌜ l .words ≤ length (now w) ⌝ }
-    ensures { λ _. ⌜ now (w .exit) ≡ markTableOr (ops l) t (now (w .entry)) ⌝ }
+pub fn mark_table_or(w: &mut [u32], l: Sizes, t: TableOr)
+    requires { ⌜ Laid (layOf l) ⌝ }
+    requires { ⌜ layOf l .words ≤ length (now w) ⌝ }
+    ensures { λ _. ⌜ now (w .exit) ≡ markTableOr (ops (layOf l)) t (now (w .entry)) ⌝ }
 {
     match t {
         TableOr::Present(r) => mark_table(w, l, r),
@@ -118,37 +140,38 @@ pub fn mark_table_or(w: &mut [u32], l: Lay, t: TableOr)
 }
 
 // The userdata of slot r.0 is black, its metatable and env are marked.
-pub fn follow_userdata(w: &mut [u32], l: Lay, r: UdRef)
-    requires { ⌜ Laid l ⌝ }
-    requires { ⌜ l .words ≤ length (now w) ⌝ }
-    requires { ⌜ r .0 < l .userdata .slots ⌝ }
-    ensures { λ _. ⌜ now (w .exit) ≡ followUserdata (ops l) l r (now (w .entry)) ⌝ }
+pub fn follow_userdata(w: &mut [u32], l: Sizes, r: UdRef)
+    requires { ⌜ Laid (layOf l) ⌝ }
+    requires { ⌜ layOf l .words ≤ length (now w) ⌝ }
+    requires { ⌜ r .0 < layOf l .userdata .slots ⌝ }
+    ensures { λ _. ⌜ now (w .exit) ≡ followUserdata (ops (layOf l)) (layOf l) r (now (w .entry)) ⌝ }
 {
+    let userdata = layout::userdata_of(l);
     let i = base::wide(r.0);
-    let p = record::body_of(w, l.userdata, i);
+    let p = record::body_of(w, userdata, i);
     let mt = record::userdata::ud_meta(w, p);
     let env = record::userdata::ud_env(w, p);
-    arena::set_colour(w, l.userdata, i, 4);
+    arena::set_colour(w, userdata, i, 4);
     mark_table_or(w, l, mt);
     mark_table_or(w, l, env);
 }
 
-pub fn mark_userdata(w: &mut [u32], l: Lay, r: UdRef)
-    requires { ⌜ Laid l ⌝ }
-    requires { ⌜ l .words ≤ length (now w) ⌝ }
-    ensures { λ _. ⌜ now (w .exit) ≡ markUserdata (ops l) l r (now (w .entry)) ⌝ }
+pub fn mark_userdata(w: &mut [u32], l: Sizes, r: UdRef)
+    requires { ⌜ Laid (layOf l) ⌝ }
+    requires { ⌜ layOf l .words ≤ length (now w) ⌝ }
+    ensures { λ _. ⌜ now (w .exit) ≡ markUserdata (ops (layOf l)) (layOf l) r (now (w .entry)) ⌝ }
 {
-    if is_white(shade(w, l.userdata, r.0, r.1)) {
+    if is_white(shade(w, layout::userdata_of(l), r.0, r.1)) {
         follow_userdata(w, l, r);
     }
 }
 
 // What the three words of a value refer to, if it is an object. The marking of stacks, arrays and nodes goes by this one: no
 // value is built from words that are only looked at.
-fn mark_tagged(w: &mut [u32], l: Lay, tag: u32, low: u32, high: u32)
-    requires { ⌜ Laid l ⌝ }
-    requires { ⌜ l .words ≤ length (now w) ⌝ }
-    ensures { λ _. ⌜ now (w .exit) ≡ markValue (ops l) l (valueOf tag low high) (now (w .entry)) ⌝ }
+fn mark_tagged(w: &mut [u32], l: Sizes, tag: u32, low: u32, high: u32)
+    requires { ⌜ Laid (layOf l) ⌝ }
+    requires { ⌜ layOf l .words ≤ length (now w) ⌝ }
+    ensures { λ _. ⌜ now (w .exit) ≡ markValue (ops (layOf l)) (layOf l) (valueOf tag low high) (now (w .entry)) ⌝ }
 {
     match tag {
         4 => mark_string(w, l, StrRef(low, high)),
@@ -160,36 +183,36 @@ fn mark_tagged(w: &mut [u32], l: Lay, tag: u32, low: u32, high: u32)
     }
 }
 
-pub fn mark_value(w: &mut [u32], l: Lay, v: Value)
-    requires { ⌜ Laid l ⌝ }
-    requires { ⌜ l .words ≤ length (now w) ⌝ }
-    ensures { λ _. ⌜ now (w .exit) ≡ markValue (ops l) l v (now (w .entry)) ⌝ }
+pub fn mark_value(w: &mut [u32], l: Sizes, v: Value)
+    requires { ⌜ Laid (layOf l) ⌝ }
+    requires { ⌜ layOf l .words ≤ length (now w) ⌝ }
+    ensures { λ _. ⌜ now (w .exit) ≡ markValue (ops (layOf l)) (layOf l) v (now (w .entry)) ⌝ }
 {
     mark_tagged(w, l, value::tag_of(v), value::low_of(v), value::high_of(v));
 }
 
 // The colour of what a value refers to, 0 where it refers to nothing.
-pub fn value_colour(w: &[u32], l: Lay, v: Value) -> u32
-    requires { ⌜ Laid l ⌝ }
-    requires { ⌜ l .words ≤ length (now w) ⌝ }
-    ensures { λ r. ⌜ r ≡ valueColour (ops l) v (now (w .entry)) ⌝ }
+pub fn value_colour(w: &[u32], l: Sizes, v: Value) -> u32
+    requires { ⌜ Laid (layOf l) ⌝ }
+    requires { ⌜ layOf l .words ≤ length (now w) ⌝ }
+    ensures { λ r. ⌜ r ≡ valueColour (ops (layOf l)) v (now (w .entry)) ⌝ }
 {
     match v {
-        Value::Str(r) => shade(w, l.strings, r.0, r.1),
-        Value::Table(r) => shade(w, l.tables, r.0, r.1),
-        Value::Function(r) => shade(w, l.functions, r.0, r.1),
-        Value::Userdata(r) => shade(w, l.userdata, r.0, r.1),
-        Value::Thread(r) => shade(w, l.threads, r.0, r.1),
+        Value::Str(r) => shade(w, layout::strings_of(l), r.0, r.1),
+        Value::Table(r) => shade(w, layout::tables_of(l), r.0, r.1),
+        Value::Function(r) => shade(w, layout::functions_of(l), r.0, r.1),
+        Value::Userdata(r) => shade(w, layout::userdata_of(l), r.0, r.1),
+        Value::Thread(r) => shade(w, layout::threads_of(l), r.0, r.1),
         _ => 0,
     }
 }
 
 // The value in words p to p + 2.
-pub fn mark_value_at(w: &mut [u32], l: Lay, p: usize)
-    requires { ⌜ Laid l ⌝ }
-    requires { ⌜ l .words ≤ length (now w) ⌝ }
+pub fn mark_value_at(w: &mut [u32], l: Sizes, p: usize)
+    requires { ⌜ Laid (layOf l) ⌝ }
+    requires { ⌜ layOf l .words ≤ length (now w) ⌝ }
     requires { ⌜ p + 2 < length (now w) ⌝ }
-    ensures { λ _. ⌜ now (w .exit) ≡ markValueAt (ops l) l p (now (w .entry)) ⌝ }
+    ensures { λ _. ⌜ now (w .exit) ≡ markValueAt (ops (layOf l)) (layOf l) p (now (w .entry)) ⌝ }
 {
     let tag = base::get(w, p);
     let low = base::get(w, p + 1);
@@ -199,18 +222,23 @@ pub fn mark_value_at(w: &mut [u32], l: Lay, p: usize)
 
 // The same. Most values of a table or a stack are no object, or a table that is marked already: these are told here, before a
 // call is made.
-pub fn mark_place(w: &mut [u32], l: Lay, p: usize)
-    requires { ⌜ Laid l ⌝ }
-    requires { ⌜ l .words ≤ length (now w) ⌝ }
+pub fn mark_place(w: &mut [u32], l: Sizes, p: usize)
+    requires { ⌜ Laid (layOf l) ⌝ }
+    requires { ⌜ layOf l .words ≤ length (now w) ⌝ }
     requires { ⌜ p + 2 < length (now w) ⌝ }
-    ensures { λ _. ⌜ now (w .exit) ≡ markValueAt (ops l) l p (now (w .entry)) ⌝ }
+    ensures { λ _. ⌜ now (w .exit) ≡ markValueAt (ops (layOf l)) (layOf l) p (now (w .entry)) ⌝ }
 {
     let tag = base::get(w, p);
     if tag < 4 {
         return;
     }
     if tag == 5 {
-        if !is_white(shade(w, l.tables, base::get(w, p + 1), base::get(w, p + 2))) {
+        if !is_white(shade(
+            w,
+            layout::tables_of(l),
+            base::get(w, p + 1),
+            base::get(w, p + 2),
+        )) {
             return;
         }
     }
@@ -230,36 +258,37 @@ pub fn is_nil_at(w: &[u32], p: usize) -> bool
 }
 
 // The upvalue of slot r.0 is black; if it is closed, its value is marked.
-fn follow_upvalue(w: &mut [u32], l: Lay, r: UpvalRef)
-    requires { ⌜ Laid l ⌝ }
-    requires { ⌜ l .words ≤ length (now w) ⌝ }
-    requires { ⌜ r .0 < l .upvalues .slots ⌝ }
-    ensures { λ _. ⌜ now (w .exit) ≡ followUpvalue (ops l) l r (now (w .entry)) ⌝ }
+fn follow_upvalue(w: &mut [u32], l: Sizes, r: UpvalRef)
+    requires { ⌜ Laid (layOf l) ⌝ }
+    requires { ⌜ layOf l .words ≤ length (now w) ⌝ }
+    requires { ⌜ r .0 < layOf l .upvalues .slots ⌝ }
+    ensures { λ _. ⌜ now (w .exit) ≡ followUpvalue (ops (layOf l)) (layOf l) r (now (w .entry)) ⌝ }
 {
+    let upvalues = layout::upvalues_of(l);
     let i = base::wide(r.0);
-    let p = record::body_of(w, l.upvalues, i);
-    arena::set_colour(w, l.upvalues, i, 4);
+    let p = record::body_of(w, upvalues, i);
+    arena::set_colour(w, upvalues, i, 4);
     if run_record::upvalues::is_closed(w, p) {
         mark_value_at(w, l, p + 1);
     }
 }
 
-pub fn mark_upvalue(w: &mut [u32], l: Lay, r: UpvalRef)
-    requires { ⌜ Laid l ⌝ }
-    requires { ⌜ l .words ≤ length (now w) ⌝ }
-    ensures { λ _. ⌜ now (w .exit) ≡ markUpvalue (ops l) l r (now (w .entry)) ⌝ }
+pub fn mark_upvalue(w: &mut [u32], l: Sizes, r: UpvalRef)
+    requires { ⌜ Laid (layOf l) ⌝ }
+    requires { ⌜ layOf l .words ≤ length (now w) ⌝ }
+    ensures { λ _. ⌜ now (w .exit) ≡ markUpvalue (ops (layOf l)) (layOf l) r (now (w .entry)) ⌝ }
 {
-    if is_white(shade(w, l.upvalues, r.0, r.1)) {
+    if is_white(shade(w, layout::upvalues_of(l), r.0, r.1)) {
         follow_upvalue(w, l, r);
     }
 }
 
 // n values from p on.
-pub fn mark_values(w: &mut [u32], l: Lay, p: usize, n: usize)
-    requires { ⌜ Laid l ⌝ }
-    requires { ⌜ l .words ≤ length (now w) ⌝ }
+pub fn mark_values(w: &mut [u32], l: Sizes, p: usize, n: usize)
+    requires { ⌜ Laid (layOf l) ⌝ }
+    requires { ⌜ layOf l .words ≤ length (now w) ⌝ }
     requires { ⌜ p + 3 * n ≤ length (now w) ⌝ }
-    ensures { λ _. ⌜ now (w .exit) ≡ markValues (ops l) l p n (now (w .entry)) ⌝ }
+    ensures { λ _. ⌜ now (w .exit) ≡ markValues (ops (layOf l)) (layOf l) p n (now (w .entry)) ⌝ }
 {
     let mut i: usize = 0;
     while i < n {
@@ -268,22 +297,22 @@ pub fn mark_values(w: &mut [u32], l: Lay, p: usize, n: usize)
     }
 }
 
-fn mark_upvalue_at(w: &mut [u32], l: Lay, p: usize)
-    requires { ⌜ Laid l ⌝ }
-    requires { ⌜ l .words ≤ length (now w) ⌝ }
+fn mark_upvalue_at(w: &mut [u32], l: Sizes, p: usize)
+    requires { ⌜ Laid (layOf l) ⌝ }
+    requires { ⌜ layOf l .words ≤ length (now w) ⌝ }
     requires { ⌜ p + 1 < length (now w) ⌝ }
-    ensures { λ _. ⌜ now (w .exit) ≡ markUpvalueAt (ops l) l p (now (w .entry)) ⌝ }
+    ensures { λ _. ⌜ now (w .exit) ≡ markUpvalueAt (ops (layOf l)) (layOf l) p (now (w .entry)) ⌝ }
 {
     let r = record::read_upval(w, p);
     mark_upvalue(w, l, r);
 }
 
 // n handles of upvalues from p on.
-pub fn mark_upvalues(w: &mut [u32], l: Lay, p: usize, n: usize)
-    requires { ⌜ Laid l ⌝ }
-    requires { ⌜ l .words ≤ length (now w) ⌝ }
+pub fn mark_upvalues(w: &mut [u32], l: Sizes, p: usize, n: usize)
+    requires { ⌜ Laid (layOf l) ⌝ }
+    requires { ⌜ layOf l .words ≤ length (now w) ⌝ }
     requires { ⌜ p + 2 * n ≤ length (now w) ⌝ }
-    ensures { λ _. ⌜ now (w .exit) ≡ markUpvalues (ops l) l p n (now (w .entry)) ⌝ }
+    ensures { λ _. ⌜ now (w .exit) ≡ markUpvalues (ops (layOf l)) (layOf l) p n (now (w .entry)) ⌝ }
 {
     let mut i: usize = 0;
     while i < n {

@@ -1,6 +1,5 @@
 -- The parts of a layout below the boundary stand one after the other. Assumes nothing.
 --     Apart, apart          each part ends where the next begins, or before; the layout of any sizes has it
---     laid-of               sizes within their ranges give a layout that is laid, so both premises of the laws hold of it
 --     Order, order          the same with what a planned layout fixes beside: all that the laws of marking use of the places
 --     arena-header, arena-next, arena-before, arena-lists     the six arenas by their kinds
 use mathlib.Core.Path.{_≡_, ap}
@@ -9,9 +8,7 @@ use native.Mathlib.Decide.{decLt}
 use native.Mathlib.Omega.{arith}
 use Rattle.layout.specs.declared.Sizes.{Sizes}
 use Rattle.layout.specs.declared.Lay.{Lay}
-use Rattle.layout.specs.Sizes.{SizesOk}
 use Rattle.layout.specs.Layout.{layOf}
-use Rattle.layout.specs.Fits.{lay-ok}
 use Rattle.laid.specs.Laid.{Laid}
 use Rattle.mark.specs.Words.{arenaOf}
 
@@ -43,11 +40,6 @@ apart s = record {
   weak = omega arith;
   queue = omega arith;
 }
-
--- And the layout of sizes within their ranges is laid: the premises of the laws hold of every layout that is planned.
-pub laid-of : (s : Sizes) → SizesOk s → Laid (layOf s)
-unfolding Laid
-laid-of s h = lay-ok s (layOf s .words) (layOf s .bytes) h (omega arith) (omega arith)
 
 -- The header ends at word 91, the counts of the lists are words 69 to 71, each arena's three words stand from 73 to 90, and
 -- the boundary lies within the words; all bodies and the parts of the main record lie past it.

@@ -1,7 +1,7 @@
 // Metafields (document 01, 'Followed links'): a key looked up in node order, by handle; the weak mode that a metatable gives
 // by `__mode`, and whether it has a `__gc`. Nothing is changed.
 use arena::Named;
-use layout::Lay;
+use layout::Sizes;
 use value::StrOr;
 use value::StrRef;
 use value::TableOr;
@@ -10,6 +10,7 @@ use value::Value;
 ghost use mathlib.Core.Path.{_≡_};
 ghost use Prim.Native.Nat.{_+_, _≤_};
 ghost use lib.ListN.{length};
+ghost use Rattle.layout.specs.Layout.{layOf};
 ghost use Rattle.laid.specs.Laid.{Laid};
 ghost use Rattle.value.specs.Values.{keyEqual};
 ghost use Rattle.value.specs.declared.Value.the-variants.{Str};
@@ -63,10 +64,10 @@ pub fn look_up(w: &[u32], p: usize, s: StrRef) -> Value
 }
 
 // The field of a table by a name that may be missing; nil where the handle names no table.
-pub fn field(w: &[u32], l: Lay, t: TableRef, s: StrOr) -> Value
-    requires { ⌜ Laid l ⌝ }
-    requires { ⌜ l .words ≤ length (now w) ⌝ }
-    ensures { λ r. ⌜ r ≡ field l t s (now (w .entry)) ⌝ }
+pub fn field(w: &[u32], l: Sizes, t: TableRef, s: StrOr) -> Value
+    requires { ⌜ Laid (layOf l) ⌝ }
+    requires { ⌜ layOf l .words ≤ length (now w) ⌝ }
+    ensures { λ r. ⌜ r ≡ field (layOf l) t s (now (w .entry)) ⌝ }
 {
     match s {
         StrOr::Present(name) => field_named(w, l, t, name),
@@ -74,13 +75,14 @@ pub fn field(w: &[u32], l: Lay, t: TableRef, s: StrOr) -> Value
     }
 }
 
-fn field_named(w: &[u32], l: Lay, t: TableRef, s: StrRef) -> Value
-    requires { ⌜ Laid l ⌝ }
-    requires { ⌜ l .words ≤ length (now w) ⌝ }
-    ensures { λ r. ⌜ r ≡ fieldNamed l t s (now (w .entry)) ⌝ }
+fn field_named(w: &[u32], l: Sizes, t: TableRef, s: StrRef) -> Value
+    requires { ⌜ Laid (layOf l) ⌝ }
+    requires { ⌜ layOf l .words ≤ length (now w) ⌝ }
+    ensures { λ r. ⌜ r ≡ fieldNamed (layOf l) t s (now (w .entry)) ⌝ }
 {
-    match arena::name_of(w, l.tables, t.0, t.1) {
-        Named::At(i) => look_up(w, record::body_of(w, l.tables, i), s),
+    let tables = layout::tables_of(l);
+    match arena::name_of(w, tables, t.0, t.1) {
+        Named::At(i) => look_up(w, record::body_of(w, tables, i), s),
         Named::Stale => Value::Nil,
     }
 }
@@ -95,26 +97,27 @@ fn mode_of_text(s: &[u8]) -> Mode
     }
 }
 
-fn mode_of_string(w: &[u32], b: &[u8], l: Lay, s: StrRef) -> Mode
-    requires { ⌜ Laid l ⌝ }
-    requires { ⌜ l .words ≤ length (now w) ⌝ }
-    requires { ⌜ l .bytes ≤ length (now b) ⌝ }
-    ensures { λ r. ⌜ r ≡ modeOfString l s (now (w .entry)) (now (b .entry)) ⌝ }
+fn mode_of_string(w: &[u32], b: &[u8], l: Sizes, s: StrRef) -> Mode
+    requires { ⌜ Laid (layOf l) ⌝ }
+    requires { ⌜ layOf l .words ≤ length (now w) ⌝ }
+    requires { ⌜ layOf l .bytes ≤ length (now b) ⌝ }
+    ensures { λ r. ⌜ r ≡ modeOfString (layOf l) s (now (w .entry)) (now (b .entry)) ⌝ }
 {
-    match arena::name_of(w, l.strings, s.0, s.1) {
+    let strings = layout::strings_of(l);
+    match arena::name_of(w, strings, s.0, s.1) {
         Named::At(i) => {
-            let n = record::strings::string_length(w, record::body_of(w, l.strings, i));
+            let n = record::strings::string_length(w, record::body_of(w, strings, i));
             mode_of_text(record::strings::text(b, i, n))
         }
         Named::Stale => STRONG,
     }
 }
 
-fn mode_of_value(w: &[u32], b: &[u8], l: Lay, v: Value) -> Mode
-    requires { ⌜ Laid l ⌝ }
-    requires { ⌜ l .words ≤ length (now w) ⌝ }
-    requires { ⌜ l .bytes ≤ length (now b) ⌝ }
-    ensures { λ r. ⌜ r ≡ modeOfValue l v (now (w .entry)) (now (b .entry)) ⌝ }
+fn mode_of_value(w: &[u32], b: &[u8], l: Sizes, v: Value) -> Mode
+    requires { ⌜ Laid (layOf l) ⌝ }
+    requires { ⌜ layOf l .words ≤ length (now w) ⌝ }
+    requires { ⌜ layOf l .bytes ≤ length (now b) ⌝ }
+    ensures { λ r. ⌜ r ≡ modeOfValue (layOf l) v (now (w .entry)) (now (b .entry)) ⌝ }
 {
     match v {
         Value::Str(s) => mode_of_string(w, b, l, s),
@@ -123,11 +126,11 @@ fn mode_of_value(w: &[u32], b: &[u8], l: Lay, v: Value) -> Mode
 }
 
 // The mode that a metatable gives, if there is one.
-pub fn check_weak_mode(w: &[u32], b: &[u8], l: Lay, mt: TableOr) -> Mode
-    requires { ⌜ Laid l ⌝ }
-    requires { ⌜ l .words ≤ length (now w) ⌝ }
-    requires { ⌜ l .bytes ≤ length (now b) ⌝ }
-    ensures { λ r. ⌜ r ≡ weakMode l mt (now (w .entry)) (now (b .entry)) ⌝ }
+pub fn check_weak_mode(w: &[u32], b: &[u8], l: Sizes, mt: TableOr) -> Mode
+    requires { ⌜ Laid (layOf l) ⌝ }
+    requires { ⌜ layOf l .words ≤ length (now w) ⌝ }
+    requires { ⌜ layOf l .bytes ≤ length (now b) ⌝ }
+    ensures { λ r. ⌜ r ≡ weakMode (layOf l) mt (now (w .entry)) (now (b .entry)) ⌝ }
 {
     match mt {
         TableOr::Present(t) => {
@@ -139,10 +142,10 @@ pub fn check_weak_mode(w: &[u32], b: &[u8], l: Lay, mt: TableOr) -> Mode
 }
 
 // The `__gc` that a metatable gives now, nil where there is none.
-pub fn gc_method(w: &[u32], l: Lay, mt: TableOr) -> Value
-    requires { ⌜ Laid l ⌝ }
-    requires { ⌜ l .words ≤ length (now w) ⌝ }
-    ensures { λ r. ⌜ r ≡ gcMethod l mt (now (w .entry)) ⌝ }
+pub fn gc_method(w: &[u32], l: Sizes, mt: TableOr) -> Value
+    requires { ⌜ Laid (layOf l) ⌝ }
+    requires { ⌜ layOf l .words ≤ length (now w) ⌝ }
+    ensures { λ r. ⌜ r ≡ gcMethod (layOf l) mt (now (w .entry)) ⌝ }
 {
     match mt {
         TableOr::Present(t) => field(w, l, t, main_record::gc_name(w)),

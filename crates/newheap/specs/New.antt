@@ -10,7 +10,7 @@ use Rattle.base.specs.Words.{put, clear}
 use Rattle.base.specs.Heap.{Heap, heap}
 use Rattle.arena.specs.declared.Arena.{Arena}
 use Rattle.layout.specs.Places.{GLOBAL, REGISTRY, NAME-MODE, NAME-GC, LIMIT, PAUSE, STEPMUL, WHITE, TOTAL, PEAK, THRESHOLD, DEBT, TABLE-WORDS}
-use Rattle.layout.specs.Layout.{planned}
+use Rattle.layout.specs.Layout.{layOf, planned}
 use Rattle.layout.specs.declared.Sizes.{Sizes}
 use Rattle.layout.specs.declared.Lay.{Lay}
 use Rattle.layout.specs.declared.Opened.{Opened}
@@ -89,10 +89,10 @@ newHeap l h = heap (newWords l (h .words)) (newBytes l (h .bytes))
 
 -- Making a heap tests the sizes (4), then the lengths (1), nothing else.
 abbrev pub madeIn : Heap → Opened → Made × Heap
-madeIn h (opening.Fits l) =
-    ifLt (length (h .words)) (l .words) (Refused 1, h)
-    (ifLt (length (h .bytes)) (l .bytes) (Refused 1, h)
-    (Done, newHeap l h))
+madeIn h (opening.Fits s) =
+    ifLt (length (h .words)) (layOf s .words) (Refused 1, h)
+    (ifLt (length (h .bytes)) (layOf s .bytes) (Refused 1, h)
+    (Done, newHeap (layOf s) h))
 madeIn h (opening.Refused n) = (Refused n, h)
 
 unfoldable pub makeHeap : Sizes → Heap → Made × Heap

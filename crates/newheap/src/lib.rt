@@ -210,7 +210,8 @@ pub fn make_heap(w: &mut [u32], b: &mut [u8], s: Sizes) -> Made
     ensures { λ r. ⌜ (r, heap (now (w .exit)) (now (b .exit))) ≡ makeHeap s (heap (now (w .entry)) (now (b .entry))) ⌝ }
 {
     match layout::plan(s) {
-        Opened::Fits(l) => {
+        Opened::Fits(z) => {
+            let l = layout::lay_of(z);
             if w.len() < l.words {
                 return Made::Refused(1);
             }

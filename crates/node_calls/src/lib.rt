@@ -2,13 +2,14 @@
 // and changes nothing where it refuses. The backward barrier follows the store; where it set the damage mark the answer is 8.
 use arena::Named;
 use given::Served;
-use layout::Lay;
 use layout::Opened;
+use layout::Sizes;
 use value::TableRef;
 use value::Value;
 ghost use mathlib.Core.Path.{_≡_};
 ghost use Prim.Native.Nat.{_+_, _≤_, _<_};
 ghost use lib.ListN.{length};
+ghost use Rattle.layout.specs.Layout.{layOf};
 ghost use Rattle.base.specs.Heap.{heap};
 ghost use Rattle.laid.specs.Laid.{Laid};
 ghost use Rattle.node_calls.specs.NodeCalls.{isNaNKey, isNode, isTwin, isTaken, storeNode, tableSetNodeIn, tableSetNode};
@@ -68,11 +69,19 @@ fn is_taken(w: &[u32], p: usize, j: usize, k: Value) -> bool
 }
 
 // Node j of table t, whose record is at p.
-fn store_node(w: &mut [u32], l: Lay, t: TableRef, j: usize, k: Value, v: Value, p: usize) -> Served
-    requires { ⌜ Laid l ⌝ }
-    requires { ⌜ l .words ≤ length (now w) ⌝ }
+fn store_node(
+    w: &mut [u32],
+    l: Sizes,
+    t: TableRef,
+    j: usize,
+    k: Value,
+    v: Value,
+    p: usize,
+) -> Served
+    requires { ⌜ Laid (layOf l) ⌝ }
+    requires { ⌜ layOf l .words ≤ length (now w) ⌝ }
     requires { ⌜ p + 580 ≤ length (now w) ⌝ }
-    ensures { λ r. ⌜ (r, now (w .exit)) ≡ storeNode l t j k v p (now (w .entry)) ⌝ }
+    ensures { λ r. ⌜ (r, now (w .exit)) ≡ storeNode (layOf l) t j k v p (now (w .entry)) ⌝ }
 {
     if record::tables::node_count(w, p) <= j {
         return Served::Refused(4);
@@ -91,17 +100,18 @@ fn store_node(w: &mut [u32], l: Lay, t: TableRef, j: usize, k: Value, v: Value, 
     Served::Done
 }
 
-fn table_set_node_in(w: &mut [u32], l: Lay, t: TableRef, j: u32, k: Value, v: Value) -> Served
-    requires { ⌜ Laid l ⌝ }
-    requires { ⌜ l .words ≤ length (now w) ⌝ }
-    ensures { λ r. ⌜ (r, now (w .exit)) ≡ tableSetNodeIn t j k v l (now (w .entry)) ⌝ }
+fn table_set_node_in(w: &mut [u32], l: Sizes, t: TableRef, j: u32, k: Value, v: Value) -> Served
+    requires { ⌜ Laid (layOf l) ⌝ }
+    requires { ⌜ layOf l .words ≤ length (now w) ⌝ }
+    ensures { λ r. ⌜ (r, now (w .exit)) ≡ tableSetNodeIn t j k v (layOf l) (now (w .entry)) ⌝ }
 {
+    let tables = layout::tables_of(l);
     if !is_node(k, v) {
         return Served::Refused(4);
     }
-    match arena::name_of(w, l.tables, t.0, t.1) {
+    match arena::name_of(w, tables, t.0, t.1) {
         Named::At(n) => {
-            let p = record::body_of(w, l.tables, n);
+            let p = record::body_of(w, tables, n);
             store_node(w, l, t, base::wide(j), k, v, p)
         }
         Named::Stale => Served::Refused(2),

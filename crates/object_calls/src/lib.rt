@@ -3,23 +3,24 @@
 // table; where it set the damage mark the answer is 8.
 use arena::Named;
 use given::Served;
-use layout::Lay;
 use layout::Opened;
+use layout::Sizes;
 use value::TableOr;
 use value::UdRef;
 use value::Value;
 ghost use mathlib.Core.Path.{_≡_};
 ghost use Prim.Native.Nat.{_+_, _≤_};
 ghost use lib.ListN.{length};
+ghost use Rattle.layout.specs.Layout.{layOf};
 ghost use Rattle.base.specs.Heap.{heap};
 ghost use Rattle.laid.specs.Laid.{Laid};
 ghost use Rattle.object_calls.specs.ObjectCalls.{forwardTable, forwardFrom, metaAt, udSetMetaIn, udSetMeta, envAt, udSetEnvIn, udSetEnv, setTypeMetaIn, setTypeMeta};
 
 // The forward barrier of a table that may be missing.
-fn forward_table(w: &mut [u32], l: Lay, parent: u32, t: TableOr)
-    requires { ⌜ Laid l ⌝ }
-    requires { ⌜ l .words ≤ length (now w) ⌝ }
-    ensures { λ _. ⌜ now (w .exit) ≡ forwardTable l parent t (now (w .entry)) ⌝ }
+fn forward_table(w: &mut [u32], l: Sizes, parent: u32, t: TableOr)
+    requires { ⌜ Laid (layOf l) ⌝ }
+    requires { ⌜ layOf l .words ≤ length (now w) ⌝ }
+    ensures { λ _. ⌜ now (w .exit) ≡ forwardTable (layOf l) parent t (now (w .entry)) ⌝ }
 {
     match t {
         TableOr::Present(r) => propagate::barrier_forward(w, l, parent, Value::Table(r)),
@@ -28,21 +29,21 @@ fn forward_table(w: &mut [u32], l: Lay, parent: u32, t: TableOr)
 }
 
 // The same with a userdata as the parent.
-fn forward_from(w: &mut [u32], l: Lay, d: UdRef, t: TableOr)
-    requires { ⌜ Laid l ⌝ }
-    requires { ⌜ l .words ≤ length (now w) ⌝ }
-    ensures { λ _. ⌜ now (w .exit) ≡ forwardFrom l d t (now (w .entry)) ⌝ }
+fn forward_from(w: &mut [u32], l: Sizes, d: UdRef, t: TableOr)
+    requires { ⌜ Laid (layOf l) ⌝ }
+    requires { ⌜ layOf l .words ≤ length (now w) ⌝ }
+    ensures { λ _. ⌜ now (w .exit) ≡ forwardFrom (layOf l) d t (now (w .entry)) ⌝ }
 {
-    let c = mark::shade(w, l.userdata, d.0, d.1);
+    let c = mark::shade(w, layout::userdata_of(l), d.0, d.1);
     forward_table(w, l, c, t);
 }
 
 // The metatable of userdata d, whose record is at p.
-fn meta_at(w: &mut [u32], l: Lay, d: UdRef, t: TableOr, p: usize) -> Served
-    requires { ⌜ Laid l ⌝ }
-    requires { ⌜ l .words ≤ length (now w) ⌝ }
+fn meta_at(w: &mut [u32], l: Sizes, d: UdRef, t: TableOr, p: usize) -> Served
+    requires { ⌜ Laid (layOf l) ⌝ }
+    requires { ⌜ layOf l .words ≤ length (now w) ⌝ }
     requires { ⌜ p + 7 ≤ length (now w) ⌝ }
-    ensures { λ r. ⌜ (r, now (w .exit)) ≡ metaAt l d t p (now (w .entry)) ⌝ }
+    ensures { λ r. ⌜ (r, now (w .exit)) ≡ metaAt (layOf l) d t p (now (w .entry)) ⌝ }
 {
     if !given::is_table_or(w, l, t) {
         return Served::Refused(2);
@@ -52,14 +53,15 @@ fn meta_at(w: &mut [u32], l: Lay, d: UdRef, t: TableOr, p: usize) -> Served
     Served::Done
 }
 
-fn ud_set_meta_in(w: &mut [u32], l: Lay, d: UdRef, t: TableOr) -> Served
-    requires { ⌜ Laid l ⌝ }
-    requires { ⌜ l .words ≤ length (now w) ⌝ }
-    ensures { λ r. ⌜ (r, now (w .exit)) ≡ udSetMetaIn d t l (now (w .entry)) ⌝ }
+fn ud_set_meta_in(w: &mut [u32], l: Sizes, d: UdRef, t: TableOr) -> Served
+    requires { ⌜ Laid (layOf l) ⌝ }
+    requires { ⌜ layOf l .words ≤ length (now w) ⌝ }
+    ensures { λ r. ⌜ (r, now (w .exit)) ≡ udSetMetaIn d t (layOf l) (now (w .entry)) ⌝ }
 {
-    match arena::name_of(w, l.userdata, d.0, d.1) {
+    let userdata = layout::userdata_of(l);
+    match arena::name_of(w, userdata, d.0, d.1) {
         Named::At(n) => {
-            let p = record::body_of(w, l.userdata, n);
+            let p = record::body_of(w, userdata, n);
             meta_at(w, l, d, t, p)
         }
         Named::Stale => Served::Refused(2),
@@ -80,11 +82,11 @@ pub fn ud_set_meta(w: &mut [u32], b: &[u8], d: UdRef, t: TableOr) -> Served
 }
 
 // The environment of userdata d, whose record is at p.
-fn env_at(w: &mut [u32], l: Lay, d: UdRef, t: TableOr, p: usize) -> Served
-    requires { ⌜ Laid l ⌝ }
-    requires { ⌜ l .words ≤ length (now w) ⌝ }
+fn env_at(w: &mut [u32], l: Sizes, d: UdRef, t: TableOr, p: usize) -> Served
+    requires { ⌜ Laid (layOf l) ⌝ }
+    requires { ⌜ layOf l .words ≤ length (now w) ⌝ }
     requires { ⌜ p + 7 ≤ length (now w) ⌝ }
-    ensures { λ r. ⌜ (r, now (w .exit)) ≡ envAt l d t p (now (w .entry)) ⌝ }
+    ensures { λ r. ⌜ (r, now (w .exit)) ≡ envAt (layOf l) d t p (now (w .entry)) ⌝ }
 {
     if !given::is_table_or(w, l, t) {
         return Served::Refused(2);
@@ -94,14 +96,15 @@ fn env_at(w: &mut [u32], l: Lay, d: UdRef, t: TableOr, p: usize) -> Served
     Served::Done
 }
 
-fn ud_set_env_in(w: &mut [u32], l: Lay, d: UdRef, t: TableOr) -> Served
-    requires { ⌜ Laid l ⌝ }
-    requires { ⌜ l .words ≤ length (now w) ⌝ }
-    ensures { λ r. ⌜ (r, now (w .exit)) ≡ udSetEnvIn d t l (now (w .entry)) ⌝ }
+fn ud_set_env_in(w: &mut [u32], l: Sizes, d: UdRef, t: TableOr) -> Served
+    requires { ⌜ Laid (layOf l) ⌝ }
+    requires { ⌜ layOf l .words ≤ length (now w) ⌝ }
+    ensures { λ r. ⌜ (r, now (w .exit)) ≡ udSetEnvIn d t (layOf l) (now (w .entry)) ⌝ }
 {
-    match arena::name_of(w, l.userdata, d.0, d.1) {
+    let userdata = layout::userdata_of(l);
+    match arena::name_of(w, userdata, d.0, d.1) {
         Named::At(n) => {
-            let p = record::body_of(w, l.userdata, n);
+            let p = record::body_of(w, userdata, n);
             env_at(w, l, d, t, p)
         }
         Named::Stale => Served::Refused(2),
@@ -122,10 +125,10 @@ pub fn ud_set_env(w: &mut [u32], b: &[u8], d: UdRef, t: TableOr) -> Served
 }
 
 // The main record is taken as black, so the parent's colour is 4.
-fn set_type_meta_in(w: &mut [u32], l: Lay, k: u32, t: TableOr) -> Served
-    requires { ⌜ Laid l ⌝ }
-    requires { ⌜ l .words ≤ length (now w) ⌝ }
-    ensures { λ r. ⌜ (r, now (w .exit)) ≡ setTypeMetaIn k t l (now (w .entry)) ⌝ }
+fn set_type_meta_in(w: &mut [u32], l: Sizes, k: u32, t: TableOr) -> Served
+    requires { ⌜ Laid (layOf l) ⌝ }
+    requires { ⌜ layOf l .words ≤ length (now w) ⌝ }
+    ensures { λ r. ⌜ (r, now (w .exit)) ≡ setTypeMetaIn k t (layOf l) (now (w .entry)) ⌝ }
 {
     let i = base::wide(k);
     if 8 < i {

@@ -26,7 +26,7 @@ use Rattle.lists.specs.declared.Item.the-variants.{Userdata}
 use Rattle.lists.specs.Lists.{indexOf, generationOf, itemIn, lengthOf, place, cleared}
 use Rattle.lists.specs.Laws.{item-three, cleared-kept}
 use Rattle.record.specs.Fields.{bodyAt}
-use Rattle.laid.specs.Laid.{Laid, weak-room}
+use Rattle.laid.specs.Laid.{Laid, weak-room, laid-of}
 use Rattle.mark.specs.Ops.{Ref, ref, otherWhite}
 use Rattle.mark.specs.Words.{colourW}
 use Rattle.separate.specs.Separation.{isDue, separated}
@@ -34,7 +34,7 @@ use Rattle.clearing.specs.Strings.{keepAll}
 use Rattle.clearing.specs.Entries.{clearAll, clearWeakTables}
 use Rattle.atomic.specs.Atomic.{marked, finished, flipped, begun, atomic}
 use Rattle.step.specs.Step.{startCycle}
-use Rattle.mark_laws.specs.Apart.{Apart, Order, order, apart, laid-of}
+use Rattle.mark_laws.specs.Apart.{Apart, Order, order, apart}
 use Rattle.mark_laws.specs.Changes.{tops, past}
 use Rattle.mark_laws.specs.Stays.{below}
 use Rattle.room_laws.specs.Tallies.{Ample, ample}

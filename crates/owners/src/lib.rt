@@ -1,11 +1,12 @@
 // Where the stacks and lists of the main record and of a thread lie, and a thread's record by its handle.
 use arena::Named;
-use layout::Lay;
+use layout::Sizes;
 use stacks::Counted;
 use value::ThreadRef;
 ghost use mathlib.Core.Path.{_≡_};
 ghost use Prim.Native.Nat.{_+_, _≤_};
 ghost use lib.ListN.{length};
+ghost use Rattle.layout.specs.Layout.{layOf};
 ghost use Rattle.laid.specs.Laid.{Laid};
 ghost use Rattle.stacks.specs.Places.{Holds};
 ghost use Rattle.owners.specs.Owners.{mainStack, mainOpens, threadStack, threadOpens, threadSuspended, threadBody, Inside};
@@ -16,28 +17,28 @@ pub enum Body {
     Stale,
 }
 
-pub fn main_stack(w: &[u32], l: Lay) -> Counted
-    requires { ⌜ Laid l ⌝ }
-    requires { ⌜ l .words ≤ length (now w) ⌝ }
-    ensures { λ s. ⌜ (s ≡ mainStack l (now (w .entry))) × Holds s 3 (length (now (w .entry))) ⌝ }
+pub fn main_stack(w: &[u32], l: Sizes) -> Counted
+    requires { ⌜ Laid (layOf l) ⌝ }
+    requires { ⌜ layOf l .words ≤ length (now w) ⌝ }
+    ensures { λ s. ⌜ (s ≡ mainStack (layOf l) (now (w .entry))) × Holds s 3 (length (now (w .entry))) ⌝ }
 {
     Counted {
         word: layout::TOP,
-        base: l.stack.base,
-        room: l.stack.room,
+        base: layout::stack_at(l),
+        room: l.stack,
         count: main_record::main_top(w, l),
     }
 }
 
-pub fn main_opens(w: &[u32], l: Lay) -> Counted
-    requires { ⌜ Laid l ⌝ }
-    requires { ⌜ l .words ≤ length (now w) ⌝ }
-    ensures { λ s. ⌜ (s ≡ mainOpens l (now (w .entry))) × Holds s 2 (length (now (w .entry))) ⌝ }
+pub fn main_opens(w: &[u32], l: Sizes) -> Counted
+    requires { ⌜ Laid (layOf l) ⌝ }
+    requires { ⌜ layOf l .words ≤ length (now w) ⌝ }
+    ensures { λ s. ⌜ (s ≡ mainOpens (layOf l) (now (w .entry))) × Holds s 2 (length (now (w .entry))) ⌝ }
 {
     Counted {
         word: layout::OPENS,
-        base: l.opens.base,
-        room: l.opens.room,
+        base: layout::opens_at(l),
+        room: l.opens,
         count: main_record::main_open_count(w, l),
     }
 }
@@ -79,13 +80,14 @@ pub fn thread_suspended(w: &[u32], p: usize) -> Counted
     }
 }
 
-pub fn thread_body(w: &[u32], l: Lay, t: ThreadRef) -> Body
-    requires { ⌜ Laid l ⌝ }
-    requires { ⌜ l .words ≤ length (now w) ⌝ }
-    ensures { λ r. ⌜ (r ≡ threadBody l t (now (w .entry))) × Inside r (length (now (w .entry))) ⌝ }
+pub fn thread_body(w: &[u32], l: Sizes, t: ThreadRef) -> Body
+    requires { ⌜ Laid (layOf l) ⌝ }
+    requires { ⌜ layOf l .words ≤ length (now w) ⌝ }
+    ensures { λ r. ⌜ (r ≡ threadBody (layOf l) t (now (w .entry))) × Inside r (length (now (w .entry))) ⌝ }
 {
-    match arena::name_of(w, l.threads, t.0, t.1) {
-        Named::At(i) => Body::At(record::body_of(w, l.threads, i)),
+    let threads = layout::threads_of(l);
+    match arena::name_of(w, threads, t.0, t.1) {
+        Named::At(i) => Body::At(record::body_of(w, threads, i)),
         Named::Stale => Body::Stale,
     }
 }

@@ -3,7 +3,7 @@
 // interrupted, the userdata and the remaining budget, and `finish` goes on with exactly that.
 use accounts::Answer;
 use accounts::Turn;
-use layout::Lay;
+use layout::Sizes;
 use step::Single;
 use sweep_step::SweepCursor;
 use value::UdRef;
@@ -11,6 +11,7 @@ use value::Value;
 ghost use mathlib.Core.Path.{_≡_};
 ghost use Prim.Native.Nat.{_≤_, _<_};
 ghost use lib.ListN.{length};
+ghost use Rattle.layout.specs.Layout.{layOf};
 ghost use Rattle.base.specs.Heap.{heap};
 ghost use Rattle.laid.specs.Laid.{Laid};
 ghost use Rattle.pace.specs.Pace.{stepsMost, turn, budgeted, driven, fullSecond, fullFirst, gaveUp, automatic};
@@ -23,21 +24,21 @@ pub enum Half {
 
 // No cycle has more steps: the roots, one for each gray item that there can be, the atomic step, one for each slot that is
 // swept and each arena, one for each queued userdata, the end.
-fn steps_most(l: Lay) -> usize
-    requires { ⌜ Laid l ⌝ }
-    ensures { λ n. ⌜ (n ≡ stepsMost l) × (n ≤ 65536) ⌝ }
+fn steps_most(l: Sizes) -> usize
+    requires { ⌜ Laid (layOf l) ⌝ }
+    ensures { λ n. ⌜ (n ≡ stepsMost (layOf l)) × (n ≤ 65536) ⌝ }
 {
-    let gray = l.gray.room + l.tables.slots + l.functions.slots + l.threads.slots;
-    let first = l.strings.slots + l.tables.slots + l.functions.slots;
-    let second = l.upvalues.slots + l.userdata.slots + l.threads.slots;
-    gray + first + second + l.queue.room + 16
+    let gray = 2 * (l.tables + l.functions + l.threads) + 1;
+    let first = l.strings + l.tables + l.functions;
+    let second = l.upvalues + l.userdata + l.threads;
+    gray + first + second + l.userdata + 16
 }
 
-fn turn(w: &mut [u32], b: &mut [u8], l: Lay, kind: u32, left: u64) -> Turn
-    requires { ⌜ Laid l ⌝ }
-    requires { ⌜ l .words ≤ length (now w) ⌝ }
-    requires { ⌜ l .bytes ≤ length (now b) ⌝ }
-    ensures { λ t. ⌜ (t, heap (now (w .exit)) (now (b .exit))) ≡ turn l kind left (heap (now (w .entry)) (now (b .entry))) ⌝ }
+fn turn(w: &mut [u32], b: &mut [u8], l: Sizes, kind: u32, left: u64) -> Turn
+    requires { ⌜ Laid (layOf l) ⌝ }
+    requires { ⌜ layOf l .words ≤ length (now w) ⌝ }
+    requires { ⌜ layOf l .bytes ≤ length (now b) ⌝ }
+    ensures { λ t. ⌜ (t, heap (now (w .exit)) (now (b .exit))) ≡ turn (layOf l) kind left (heap (now (w .entry)) (now (b .entry))) ⌝ }
 {
     match step::single_step(w, b, l) {
         Single::Cost(c) => accounts::after_cost(w, left, c),
@@ -49,11 +50,11 @@ fn turn(w: &mut [u32], b: &mut [u8], l: Lay, kind: u32, left: u64) -> Turn
 }
 
 // Steps until the budget is used up, the cycle ends or a finalizer is handed out. At least one is made.
-pub fn budgeted(w: &mut [u32], b: &mut [u8], l: Lay, kind: u32, budget: u64) -> Answer
-    requires { ⌜ Laid l ⌝ }
-    requires { ⌜ l .words ≤ length (now w) ⌝ }
-    requires { ⌜ l .bytes ≤ length (now b) ⌝ }
-    ensures { λ r. ⌜ (r, heap (now (w .exit)) (now (b .exit))) ≡ budgeted l kind budget (heap (now (w .entry)) (now (b .entry))) ⌝ }
+pub fn budgeted(w: &mut [u32], b: &mut [u8], l: Sizes, kind: u32, budget: u64) -> Answer
+    requires { ⌜ Laid (layOf l) ⌝ }
+    requires { ⌜ layOf l .words ≤ length (now w) ⌝ }
+    requires { ⌜ layOf l .bytes ≤ length (now b) ⌝ }
+    ensures { λ r. ⌜ (r, heap (now (w .exit)) (now (b .exit))) ≡ budgeted (layOf l) kind budget (heap (now (w .entry)) (now (b .entry))) ⌝ }
 {
     let mut left = budget;
     let mut rounds = steps_most(l);
@@ -72,11 +73,11 @@ pub fn budgeted(w: &mut [u32], b: &mut [u8], l: Lay, kind: u32, budget: u64) -> 
 }
 
 // Steps until the phase is at most `end`, or a finalizer is handed out.
-fn drive(w: &mut [u32], b: &mut [u8], l: Lay, kind: u32, end: u32) -> Half
-    requires { ⌜ Laid l ⌝ }
-    requires { ⌜ l .words ≤ length (now w) ⌝ }
-    requires { ⌜ l .bytes ≤ length (now b) ⌝ }
-    ensures { λ r. ⌜ (r, heap (now (w .exit)) (now (b .exit))) ≡ driven l kind end (heap (now (w .entry)) (now (b .entry))) ⌝ }
+fn drive(w: &mut [u32], b: &mut [u8], l: Sizes, kind: u32, end: u32) -> Half
+    requires { ⌜ Laid (layOf l) ⌝ }
+    requires { ⌜ layOf l .words ≤ length (now w) ⌝ }
+    requires { ⌜ layOf l .bytes ≤ length (now b) ⌝ }
+    ensures { λ r. ⌜ (r, heap (now (w .exit)) (now (b .exit))) ≡ driven (layOf l) kind end (heap (now (w .entry)) (now (b .entry))) ⌝ }
 {
     let mut rounds = steps_most(l);
     while 0 < rounds {
@@ -96,11 +97,11 @@ fn drive(w: &mut [u32], b: &mut [u8], l: Lay, kind: u32, end: u32) -> Half
 }
 
 // The fresh cycle of a full collection.
-pub fn full_second(w: &mut [u32], b: &mut [u8], l: Lay) -> Answer
-    requires { ⌜ Laid l ⌝ }
-    requires { ⌜ l .words ≤ length (now w) ⌝ }
-    requires { ⌜ l .bytes ≤ length (now b) ⌝ }
-    ensures { λ r. ⌜ (r, heap (now (w .exit)) (now (b .exit))) ≡ fullSecond l (heap (now (w .entry)) (now (b .entry))) ⌝ }
+pub fn full_second(w: &mut [u32], b: &mut [u8], l: Sizes) -> Answer
+    requires { ⌜ Laid (layOf l) ⌝ }
+    requires { ⌜ layOf l .words ≤ length (now w) ⌝ }
+    requires { ⌜ layOf l .bytes ≤ length (now b) ⌝ }
+    ensures { λ r. ⌜ (r, heap (now (w .exit)) (now (b .exit))) ≡ fullSecond (layOf l) (heap (now (w .entry)) (now (b .entry))) ⌝ }
 {
     match drive(w, b, l, accounts::FULL_SECOND, 0) {
         Half::Through => {
@@ -112,11 +113,11 @@ pub fn full_second(w: &mut [u32], b: &mut [u8], l: Lay) -> Answer
 }
 
 // What was under way is swept and finalized to its end; then a cycle is run from its beginning.
-pub fn full_first(w: &mut [u32], b: &mut [u8], l: Lay) -> Answer
-    requires { ⌜ Laid l ⌝ }
-    requires { ⌜ l .words ≤ length (now w) ⌝ }
-    requires { ⌜ l .bytes ≤ length (now b) ⌝ }
-    ensures { λ r. ⌜ (r, heap (now (w .exit)) (now (b .exit))) ≡ fullFirst l (heap (now (w .entry)) (now (b .entry))) ⌝ }
+pub fn full_first(w: &mut [u32], b: &mut [u8], l: Sizes) -> Answer
+    requires { ⌜ Laid (layOf l) ⌝ }
+    requires { ⌜ layOf l .words ≤ length (now w) ⌝ }
+    requires { ⌜ layOf l .bytes ≤ length (now b) ⌝ }
+    ensures { λ r. ⌜ (r, heap (now (w .exit)) (now (b .exit))) ≡ fullFirst (layOf l) (heap (now (w .entry)) (now (b .entry))) ⌝ }
 {
     match drive(w, b, l, accounts::FULL_FIRST, 1) {
         Half::Through => {
@@ -128,10 +129,10 @@ pub fn full_first(w: &mut [u32], b: &mut [u8], l: Lay) -> Answer
 }
 
 // Marking that was under way is given up: the lists are emptied, and a sweep begins without a flip of the white.
-pub fn give_up_marking(w: &mut [u32], l: Lay)
-    requires { ⌜ Laid l ⌝ }
-    requires { ⌜ l .words ≤ length (now w) ⌝ }
-    ensures { λ _. ⌜ now (w .exit) ≡ gaveUp l (now (w .entry)) ⌝ }
+pub fn give_up_marking(w: &mut [u32], l: Sizes)
+    requires { ⌜ Laid (layOf l) ⌝ }
+    requires { ⌜ layOf l .words ≤ length (now w) ⌝ }
+    ensures { λ _. ⌜ now (w .exit) ≡ gaveUp (layOf l) (now (w .entry)) ⌝ }
 {
     if base::get(w, layout::PHASE) <= 1 {
         propagate::clear_lists(w, l);
@@ -141,11 +142,11 @@ pub fn give_up_marking(w: &mut [u32], l: Lay)
 }
 
 // An automatic step, for itself or for a check.
-pub fn automatic(w: &mut [u32], b: &mut [u8], l: Lay, kind: u32) -> Answer
-    requires { ⌜ Laid l ⌝ }
-    requires { ⌜ l .words ≤ length (now w) ⌝ }
-    requires { ⌜ l .bytes ≤ length (now b) ⌝ }
-    ensures { λ r. ⌜ (r, heap (now (w .exit)) (now (b .exit))) ≡ automatic l kind (heap (now (w .entry)) (now (b .entry))) ⌝ }
+pub fn automatic(w: &mut [u32], b: &mut [u8], l: Sizes, kind: u32) -> Answer
+    requires { ⌜ Laid (layOf l) ⌝ }
+    requires { ⌜ layOf l .words ≤ length (now w) ⌝ }
+    requires { ⌜ layOf l .bytes ≤ length (now b) ⌝ }
+    ensures { λ r. ⌜ (r, heap (now (w .exit)) (now (b .exit))) ≡ automatic (layOf l) kind (heap (now (w .entry)) (now (b .entry))) ⌝ }
 {
     accounts::grow_debt(w);
     let stepmul = base::get(w, layout::STEPMUL);

@@ -22,8 +22,8 @@ use Rattle.layout.specs.Sizes.{SizesOk}
 use Rattle.layout.specs.Layout.{layOf}
 use Rattle.layout.specs.Places.{PHASE, TOTAL, THRESHOLD, DEBT, INTERRUPTED, OUT, REMAINING}
 use Rattle.lists.specs.Lists.{lengthOf}
-use Rattle.laid.specs.Laid.{Laid}
-use Rattle.mark_laws.specs.Apart.{Apart, apart, laid-of}
+use Rattle.laid.specs.Laid.{Laid, laid-of}
+use Rattle.mark_laws.specs.Apart.{Apart, apart}
 use Rattle.room_laws.specs.Tallies.{Ample, ample}
 use Rattle.reach.specs.Cycle.{AllWhite}
 use Rattle.atomic_laws.specs.Bodies.{Bodies, bodies}

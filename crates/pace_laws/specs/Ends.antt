@@ -20,8 +20,8 @@ use Rattle.layout.specs.Sizes.{SizesOk}
 use Rattle.layout.specs.Layout.{layOf}
 use Rattle.layout.specs.Places.{PHASE}
 use Rattle.lists.specs.Lists.{lengthOf}
-use Rattle.laid.specs.Laid.{Laid}
-use Rattle.mark_laws.specs.Apart.{Apart, apart, laid-of}
+use Rattle.laid.specs.Laid.{Laid, laid-of}
+use Rattle.mark_laws.specs.Apart.{Apart, apart}
 use Rattle.room_laws.specs.Tallies.{Ample, ample}
 use Rattle.room_laws.specs.Queues.{queue-count}
 use Rattle.reach.specs.Cycle.{AllWhite}

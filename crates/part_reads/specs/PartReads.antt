@@ -14,7 +14,8 @@ use Rattle.layout.specs.declared.Lay.{Lay}
 use Rattle.layout.specs.declared.List.{List}
 use Rattle.layout.specs.declared.Part.{Part}
 use Rattle.layout.specs.Places.{TOP, OPENS, CI, ERROR, HOOK}
-use Rattle.layout.specs.Fits.{Ok}
+use Rattle.layout.specs.Sizes.{SizesOk}
+use Rattle.layout.specs.Fits.{Ok, sizesIn, sizes-in}
 use Rattle.lists.specs.Lists.{RoomFor, lengthOf, itemAt}
 use Rattle.test1.specs.Calls.{ask}
 use Rattle.reads.specs.declared.Read.{Read}
@@ -70,6 +71,7 @@ pub record MainOk (l : Lay) (n : ℕ) : Type 0 where
   pub opens-fit : l .opens .base + 2 * l .opens .room ≤ n
   pub frames : l .frames .room ≤ 32
   pub frames-fit : l .frames .base + l .frames .room ≤ n
+  pub sizes : SizesOk (sizesIn l)
 
 pub main-ok : (l : Lay) (n m : ℕ) → Ok l n m → MainOk l n
 main-ok l n m k = record {
@@ -80,6 +82,7 @@ main-ok l n m k = record {
   opens-fit = k .opens .fits;
   frames = k .frames .room;
   frames-fit = omega (arith, k .frames .fits);
+  sizes = sizes-in l n m k;
 }
 
 -- The four working lists: how many items, and the item at a place below that.

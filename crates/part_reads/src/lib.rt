@@ -1,16 +1,18 @@
 // Public reads of what stands past the header's counters: the main record, the working lists, and the slots of each arena.
 // Each gives 1 and 8 first, then 4, and changes nothing.
 use arena::Arena;
-use layout::Lay;
 use layout::List;
 use layout::Opened;
 use layout::Part;
+use layout::Sizes;
 use reads::Kind;
 use reads::Read;
 use value::UpvalRef;
 ghost use mathlib.Core.Path.{_≡_};
 ghost use Prim.Native.Nat.{_+_, _*_, _≤_, _<_};
 ghost use lib.ListN.{length};
+ghost use Rattle.layout.specs.Sizes.{SizesOk};
+ghost use Rattle.layout.specs.Layout.{layOf};
 ghost use Rattle.base.specs.Heap.{heap};
 ghost use Rattle.arena.specs.Slots.{Room};
 ghost use Rattle.lists.specs.Lists.{RoomFor};
@@ -106,9 +108,9 @@ fn frame_in(w: &[u32], p: Part, i: u32) -> Read
     Read::Refused(4)
 }
 
-fn main_in(w: &[u32], l: Lay, q: Main) -> Read
-    requires { ⌜ MainOk l (length (now w)) ⌝ }
-    ensures { λ r. ⌜ r ≡ mainIn l q (now (w .entry)) ⌝ }
+fn main_in(w: &[u32], l: Sizes, q: Main) -> Read
+    requires { ⌜ MainOk (layOf l) (length (now w)) ⌝ }
+    ensures { λ r. ⌜ r ≡ mainIn (layOf l) q (now (w .entry)) ⌝ }
 {
     match q {
         Main::Top => reads::number_read(w, layout::TOP),
@@ -116,9 +118,30 @@ fn main_in(w: &[u32], l: Lay, q: Main) -> Read
         Main::Ci => reads::number_read(w, layout::CI),
         Main::Error => value_read(w, layout::ERROR),
         Main::Hook => value_read(w, layout::HOOK),
-        Main::Stack(i) => stack_in(w, l.stack, i),
-        Main::Open(i) => open_in(w, l.opens, i),
-        Main::Frame(i) => frame_in(w, l.frames, i),
+        Main::Stack(i) => stack_in(
+            w,
+            Part {
+                base: layout::stack_at(l),
+                room: l.stack,
+            },
+            i,
+        ),
+        Main::Open(i) => open_in(
+            w,
+            Part {
+                base: layout::opens_at(l),
+                room: l.opens,
+            },
+            i,
+        ),
+        Main::Frame(i) => frame_in(
+            w,
+            Part {
+                base: layout::frames_at(l),
+                room: l.frames,
+            },
+            i,
+        ),
     }
 }
 
@@ -132,14 +155,15 @@ pub fn read_main(w: &[u32], b: &[u8], q: Main) -> Read
     }
 }
 
-fn list_of(l: Lay, q: Which) -> List
-    ensures { λ r. ⌜ r ≡ listOf l q ⌝ }
+fn list_of(l: Sizes, q: Which) -> List
+    requires { ⌜ SizesOk l ⌝ }
+    ensures { λ r. ⌜ r ≡ listOf (layOf l) q ⌝ }
 {
     match q {
-        Which::Gray => l.gray,
-        Which::Grayagain => l.grayagain,
-        Which::Weak => l.weak,
-        Which::Queue => l.queue,
+        Which::Gray => layout::gray_of(l),
+        Which::Grayagain => layout::grayagain_of(l),
+        Which::Weak => layout::weak_of(l),
+        Which::Queue => layout::queue_of(l),
     }
 }
 

@@ -1,11 +1,12 @@
 // Public reads of prototypes by number. Each gives 1 and 8 first, then 4 for a number that is not used or an index outside its
 // range, and changes nothing.
-use layout::Lay;
 use layout::Opened;
+use layout::Sizes;
 use reads::Read;
 ghost use mathlib.Core.Path.{_≡_};
 ghost use Prim.Native.Nat.{_<_};
 ghost use lib.ListN.{length};
+ghost use Rattle.layout.specs.Layout.{layOf};
 ghost use Rattle.base.specs.Heap.{heap};
 ghost use Rattle.main_record.specs.Parts.{Parts};
 ghost use Rattle.proto_reads.specs.ProtoReads.{protoIn, protoOn, readProto};
@@ -19,10 +20,10 @@ pub enum ProtoField {
     Child(u32),
 }
 
-fn proto_in(w: &[u32], l: Lay, n: usize, q: ProtoField) -> Read
-    requires { ⌜ Parts l (length (now w)) ⌝ }
-    requires { ⌜ n < l .protos .room ⌝ }
-    ensures { λ r. ⌜ r ≡ protoIn l n q (now (w .entry)) ⌝ }
+fn proto_in(w: &[u32], l: Sizes, n: usize, q: ProtoField) -> Read
+    requires { ⌜ Parts (layOf l) (length (now w)) ⌝ }
+    requires { ⌜ n < layOf l .protos .room ⌝ }
+    ensures { λ r. ⌜ r ≡ protoIn (layOf l) n q (now (w .entry)) ⌝ }
 {
     match q {
         ProtoField::Constants => Read::Number(
@@ -47,9 +48,9 @@ fn proto_in(w: &[u32], l: Lay, n: usize, q: ProtoField) -> Read
     }
 }
 
-fn proto_on(w: &[u32], l: Lay, n: u32, q: ProtoField) -> Read
-    requires { ⌜ Parts l (length (now w)) ⌝ }
-    ensures { λ r. ⌜ r ≡ protoOn l n q (now (w .entry)) ⌝ }
+fn proto_on(w: &[u32], l: Sizes, n: u32, q: ProtoField) -> Read
+    requires { ⌜ Parts (layOf l) (length (now w)) ⌝ }
+    ensures { λ r. ⌜ r ≡ protoOn (layOf l) n q (now (w .entry)) ⌝ }
 {
     let k = base::wide(n);
     if main_record::prototypes::protos_used(w, l) <= k {

@@ -3,7 +3,6 @@
 // since each number is walked once, that is at once, and the lowest prototype's constant is then black. The stored output is
 // by document 01's costs.
 use arena::Took;
-use layout::Lay;
 use layout::Opened;
 use layout::Sizes;
 use main_record::prototypes::set_proto_child;
@@ -20,6 +19,7 @@ use value::FuncRef;
 use value::StrRef;
 use value::Value;
 ghost use Prim.Native.Nat.{_≤_, _<_};
+ghost use Rattle.layout.specs.Layout.{layOf};
 ghost use Rattle.laid.specs.Laid.{Laid};
 
 const SIZES: Sizes = Sizes {
@@ -36,10 +36,10 @@ const SIZES: Sizes = Sizes {
 };
 
 // Prototype n nests the one below it eight times.
-fn nest(w: &mut [u32; 16472], l: Lay, n: usize)
-    requires { ⌜ Laid l ⌝ }
-    requires { ⌜ l .words ≤ 16472 ⌝ }
-    requires { ⌜ (0 < n) × (n < 256) × (n < l .protos .room) ⌝ }
+fn nest(w: &mut [u32; 16472], l: Sizes, n: usize)
+    requires { ⌜ Laid (layOf l) ⌝ }
+    requires { ⌜ layOf l .words ≤ 16472 ⌝ }
+    requires { ⌜ (0 < n) × (n < 256) × (n < layOf l .protos .room) ⌝ }
 {
     set_proto_counts(w, l, n, 0, 8);
     let mut k: usize = 0;
@@ -49,14 +49,14 @@ fn nest(w: &mut [u32; 16472], l: Lay, n: usize)
     }
 }
 
-fn nest_all(w: &mut [u32; 16472], l: Lay)
-    requires { ⌜ Laid l ⌝ }
-    requires { ⌜ l .words ≤ 16472 ⌝ }
+fn nest_all(w: &mut [u32; 16472], l: Sizes)
+    requires { ⌜ Laid (layOf l) ⌝ }
+    requires { ⌜ layOf l .words ≤ 16472 ⌝ }
 {
     set_protos_used(w, 256);
     let mut n: usize = 1;
     while n < 256 {
-        if l.protos.room <= n {
+        if l.protos <= n {
             return;
         }
         nest(w, l, n);
@@ -65,13 +65,13 @@ fn nest_all(w: &mut [u32; 16472], l: Lay)
 }
 
 // The lowest has one constant, string 2, which nothing else has.
-fn put_constant(w: &mut [u32; 16472], l: Lay)
-    requires { ⌜ Laid l ⌝ }
-    requires { ⌜ l .words ≤ 16472 ⌝ }
+fn put_constant(w: &mut [u32; 16472], l: Sizes)
+    requires { ⌜ Laid (layOf l) ⌝ }
+    requires { ⌜ layOf l .words ≤ 16472 ⌝ }
 {
-    match arena::take_slot(w, l.strings, 1, 1) {
+    match arena::take_slot(w, layout::strings_of(l), 1, 1) {
         Took::Slot(_, _) => {
-            if 0 < l.protos.room {
+            if 0 < l.protos {
                 set_proto_counts(w, l, 0, 1, 0);
                 set_proto_constant(w, l, 0, 0, Value::Str(StrRef(2, 0)));
             }
@@ -81,24 +81,24 @@ fn put_constant(w: &mut [u32; 16472], l: Lay)
 }
 
 // The closure, with neither env nor upvalues, is the main stack's only value. It is function 0.
-fn push_closure(w: &mut [u32; 16472], l: Lay, i: usize)
-    requires { ⌜ Laid l ⌝ }
-    requires { ⌜ l .words ≤ 16472 ⌝ }
-    requires { ⌜ i < l .functions .slots ⌝ }
+fn push_closure(w: &mut [u32; 16472], l: Sizes, i: usize)
+    requires { ⌜ Laid (layOf l) ⌝ }
+    requires { ⌜ layOf l .words ≤ 16472 ⌝ }
+    requires { ⌜ i < layOf l .functions .slots ⌝ }
 {
-    let p = record::body_of(w, l.functions, i);
+    let p = record::body_of(w, layout::functions_of(l), i);
     run_record::closures::set_closure_proto(w, p, 255);
-    if 0 < l.stack.room {
+    if 0 < l.stack {
         main_record::set_main_value(w, l, 0, Value::Function(FuncRef(0, 0)));
         main_record::set_main_top(w, 1);
     }
 }
 
-fn make_closure(w: &mut [u32; 16472], l: Lay)
-    requires { ⌜ Laid l ⌝ }
-    requires { ⌜ l .words ≤ 16472 ⌝ }
+fn make_closure(w: &mut [u32; 16472], l: Sizes)
+    requires { ⌜ Laid (layOf l) ⌝ }
+    requires { ⌜ layOf l .words ≤ 16472 ⌝ }
 {
-    match arena::take_slot(w, l.functions, 1, 5) {
+    match arena::take_slot(w, layout::functions_of(l), 1, 5) {
         Took::Slot(i, _) => push_closure(w, l, i),
         _ => say(b"no slot for the closure\n"),
     }
@@ -142,9 +142,9 @@ fn walk(w: &mut [u32; 16472], b: &mut [u8; 192]) {
     say(b"not traversed in 99 steps\n");
 }
 
-fn walk_in(w: &mut [u32; 16472], b: &mut [u8; 192], l: Lay)
-    requires { ⌜ Laid l ⌝ }
-    requires { ⌜ l .words ≤ 16472 ⌝ }
+fn walk_in(w: &mut [u32; 16472], b: &mut [u8; 192], l: Sizes)
+    requires { ⌜ Laid (layOf l) ⌝ }
+    requires { ⌜ layOf l .words ≤ 16472 ⌝ }
 {
     nest_all(w, l);
     put_constant(w, l);
@@ -155,7 +155,7 @@ fn walk_in(w: &mut [u32; 16472], b: &mut [u8; 192], l: Lay)
 fn show(w: &mut [u32; 16472], b: &mut [u8; 192]) {
     match layout::plan(SIZES) {
         Opened::Fits(l) => {
-            if 16472 < l.words {
+            if 16472 < layout::words_of(l) {
                 say(b"too few words\n");
                 return;
             }

@@ -2,8 +2,8 @@
 // changes nothing. Beside them what all reads share: what they answer, and what the handle of an object names.
 use arena::Arena;
 use arena::Named;
-use layout::Lay;
 use layout::Opened;
+use layout::Sizes;
 use lists::Item;
 use value::StrOr;
 use value::TableOr;
@@ -13,6 +13,8 @@ use value::Value;
 ghost use mathlib.Core.Path.{_≡_};
 ghost use Prim.Native.Nat.{_≤_, _<_};
 ghost use lib.ListN.{length};
+ghost use Rattle.layout.specs.Sizes.{SizesOk};
+ghost use Rattle.layout.specs.Layout.{layOf};
 ghost use Rattle.base.specs.Heap.{heap};
 ghost use Rattle.arena.specs.Slots.{Room};
 ghost use Rattle.reads.specs.Reads.{numberRead, flagRead, fieldOf, InHeader, counterIn, readCounter, sizePlace, readSize, readOut, rootIn, readRoot};
@@ -223,16 +225,17 @@ pub fn read_root(w: &[u32], b: &[u8], q: Root) -> Read
     }
 }
 
-pub fn arena_of(l: Lay, k: Kind) -> Arena
-    ensures { λ r. ⌜ r ≡ arenaOf l k ⌝ }
+pub fn arena_of(l: Sizes, k: Kind) -> Arena
+    requires { ⌜ SizesOk l ⌝ }
+    ensures { λ r. ⌜ r ≡ arenaOf (layOf l) k ⌝ }
 {
     match k {
-        Kind::Strings => l.strings,
-        Kind::Tables => l.tables,
-        Kind::Functions => l.functions,
-        Kind::Upvalues => l.upvalues,
-        Kind::Userdata => l.userdata,
-        Kind::Threads => l.threads,
+        Kind::Strings => layout::strings_of(l),
+        Kind::Tables => layout::tables_of(l),
+        Kind::Functions => layout::functions_of(l),
+        Kind::Upvalues => layout::upvalues_of(l),
+        Kind::Userdata => layout::userdata_of(l),
+        Kind::Threads => layout::threads_of(l),
     }
 }
 

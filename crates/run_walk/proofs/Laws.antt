@@ -31,6 +31,7 @@ parts-in {l} ok h =
       opens = omega (arith, p .opens);
       frames = omega (arith, p .frames);
       frame = p .frame;
+      sizes = p .sizes;
     }
 
 module _ (l : Lay) where

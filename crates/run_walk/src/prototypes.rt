@@ -1,29 +1,30 @@
 // The constants of a prototype and of all nested in it, by recursion: the number falls at each call.
-use layout::Lay;
+use layout::Sizes;
 ghost use mathlib.Core.Path.{_≡_};
 ghost use Prim.Native.Nat.{_+_, _*_, _≤_, _<_};
 ghost use lib.ListN.{length};
+ghost use Rattle.layout.specs.Layout.{layOf};
 ghost use Rattle.laid.specs.Laid.{Laid};
 ghost use Rattle.mark.specs.Words.{ops};
 ghost use Rattle.run_walk.specs.Prototypes.{markConstants, markProto, markProtoConstants};
 
-fn mark_constants(w: &mut [u32], l: Lay, n: usize)
-    requires { ⌜ Laid l ⌝ }
-    requires { ⌜ l .words ≤ length (now w) ⌝ }
-    requires { ⌜ n < l .protos .room ⌝ }
-    ensures { λ _. ⌜ now (w .exit) ≡ markConstants (ops l) l n (now (w .entry)) ⌝ }
+fn mark_constants(w: &mut [u32], l: Sizes, n: usize)
+    requires { ⌜ Laid (layOf l) ⌝ }
+    requires { ⌜ layOf l .words ≤ length (now w) ⌝ }
+    requires { ⌜ n < layOf l .protos .room ⌝ }
+    ensures { λ _. ⌜ now (w .exit) ≡ markConstants (ops (layOf l)) (layOf l) n (now (w .entry)) ⌝ }
 {
     let k = main_record::prototypes::proto_constants(w, l, n);
-    mark::mark_values(w, l, l.protos.base + 59 * n + 3, k);
+    mark::mark_values(w, l, layout::protos_at(l) + 59 * n + 3, k);
 }
 
 // Prototype n and all nested in it, each once: `seen` has a 1 for each number that was, so that words in which each nests the
 // next one eight times take no longer than others. A nested number not below its parent's is skipped.
-fn mark_proto(w: &mut [u32], l: Lay, seen: &mut [u8], n: usize)
-    requires { ⌜ Laid l ⌝ }
-    requires { ⌜ l .words ≤ length (now w) ⌝ }
-    requires { ⌜ (n < l .protos .room) × (l .protos .room ≤ length (now seen)) ⌝ }
-    ensures { λ _. ⌜ (now (w .exit), now (seen .exit)) ≡ markProto (ops l) l n (now (w .entry), now (seen .entry)) ⌝ }
+fn mark_proto(w: &mut [u32], l: Sizes, seen: &mut [u8], n: usize)
+    requires { ⌜ Laid (layOf l) ⌝ }
+    requires { ⌜ layOf l .words ≤ length (now w) ⌝ }
+    requires { ⌜ (n < layOf l .protos .room) × (layOf l .protos .room ≤ length (now seen)) ⌝ }
+    ensures { λ _. ⌜ (now (w .exit), now (seen .exit)) ≡ markProto (ops (layOf l)) (layOf l) n (now (w .entry), now (seen .entry)) ⌝ }
 {
     if 0 < seen[n] {
         return;
@@ -42,12 +43,12 @@ fn mark_proto(w: &mut [u32], l: Lay, seen: &mut [u8], n: usize)
 }
 
 // Prototype n, if there is one. Most have none nested, and need no set.
-pub fn mark_proto_constants(w: &mut [u32], l: Lay, n: usize)
-    requires { ⌜ Laid l ⌝ }
-    requires { ⌜ l .words ≤ length (now w) ⌝ }
-    ensures { λ _. ⌜ now (w .exit) ≡ markProtoConstants (ops l) l n (now (w .entry)) ⌝ }
+pub fn mark_proto_constants(w: &mut [u32], l: Sizes, n: usize)
+    requires { ⌜ Laid (layOf l) ⌝ }
+    requires { ⌜ layOf l .words ≤ length (now w) ⌝ }
+    ensures { λ _. ⌜ now (w .exit) ≡ markProtoConstants (ops (layOf l)) (layOf l) n (now (w .entry)) ⌝ }
 {
-    if l.protos.room <= n {
+    if l.protos <= n {
         return;
     }
     if main_record::prototypes::proto_nested(w, l, n) == 0 {

@@ -2,11 +2,12 @@
 // what it refuses (5, 4, 2, in this order), is here once. So is a value that a call is given to store at a place.
 use given::Got;
 use given::Served;
-use layout::Lay;
+use layout::Sizes;
 use value::Value;
 ghost use mathlib.Core.Path.{_≡_};
 ghost use Prim.Native.Nat.{_+_, _≤_, _<_};
 ghost use lib.ListN.{length};
+ghost use Rattle.layout.specs.Layout.{layOf};
 ghost use Rattle.laid.specs.Laid.{Laid};
 ghost use Rattle.stacks.specs.Places.{Holds, storeValue};
 ghost use Rattle.stacks.specs.Values.{pushValue, popValue, setValue, raised, setHeight};
@@ -20,11 +21,11 @@ pub struct Counted {
 }
 
 // A value stands in the three words from p on; 2 for one that names nothing.
-pub fn store_value(w: &mut [u32], l: Lay, p: usize, v: Value) -> Served
-    requires { ⌜ Laid l ⌝ }
-    requires { ⌜ l .words ≤ length (now w) ⌝ }
+pub fn store_value(w: &mut [u32], l: Sizes, p: usize, v: Value) -> Served
+    requires { ⌜ Laid (layOf l) ⌝ }
+    requires { ⌜ layOf l .words ≤ length (now w) ⌝ }
     requires { ⌜ p + 2 < length (now w) ⌝ }
-    ensures { λ r. ⌜ (r, now (w .exit)) ≡ storeValue l p v (now (w .entry)) ⌝ }
+    ensures { λ r. ⌜ (r, now (w .exit)) ≡ storeValue (layOf l) p v (now (w .entry)) ⌝ }
 {
     if !given::is_sound(w, l, v) {
         return Served::Refused(2);
@@ -34,11 +35,11 @@ pub fn store_value(w: &mut [u32], l: Lay, p: usize, v: Value) -> Served
 }
 
 // A value on top of a stack.
-pub fn push_value(w: &mut [u32], l: Lay, s: Counted, v: Value) -> Served
-    requires { ⌜ Laid l ⌝ }
-    requires { ⌜ l .words ≤ length (now w) ⌝ }
+pub fn push_value(w: &mut [u32], l: Sizes, s: Counted, v: Value) -> Served
+    requires { ⌜ Laid (layOf l) ⌝ }
+    requires { ⌜ layOf l .words ≤ length (now w) ⌝ }
     requires { ⌜ Holds s 3 (length (now w)) ⌝ }
-    ensures { λ r. ⌜ (r, now (w .exit)) ≡ pushValue l s v (now (w .entry)) ⌝ }
+    ensures { λ r. ⌜ (r, now (w .exit)) ≡ pushValue (layOf l) s v (now (w .entry)) ⌝ }
 {
     if s.room <= s.count {
         return Served::Refused(4);
@@ -65,11 +66,11 @@ pub fn pop_value(w: &mut [u32], s: Counted) -> Got
 }
 
 // Any place of a stack, also at or above the top.
-pub fn set_value(w: &mut [u32], l: Lay, s: Counted, i: u32, v: Value) -> Served
-    requires { ⌜ Laid l ⌝ }
-    requires { ⌜ l .words ≤ length (now w) ⌝ }
+pub fn set_value(w: &mut [u32], l: Sizes, s: Counted, i: u32, v: Value) -> Served
+    requires { ⌜ Laid (layOf l) ⌝ }
+    requires { ⌜ layOf l .words ≤ length (now w) ⌝ }
     requires { ⌜ Holds s 3 (length (now w)) ⌝ }
-    ensures { λ r. ⌜ (r, now (w .exit)) ≡ setValue l s i v (now (w .entry)) ⌝ }
+    ensures { λ r. ⌜ (r, now (w .exit)) ≡ setValue (layOf l) s i v (now (w .entry)) ⌝ }
 {
     let k = base::wide(i);
     if s.room <= k {

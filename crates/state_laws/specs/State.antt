@@ -280,11 +280,11 @@ calm-state {l} {w} {b} {u} {c} ok s m o e = record {
     now = m .fixed WHITE (mark (omega arith) (omega arith))
 
 -- What a call begins with: a refusal, or the layout of the sizes in the header.
-opened-is : (w : List ℕ) (m : ℕ) (P : Opened → Type 0) → P (Fits (layOf (sizesAt w))) → ((n : ℕ) → P (Refused n)) → P (opened w m)
+opened-is : (w : List ℕ) (m : ℕ) (P : Opened → Type 0) → P (Fits (sizesAt w)) → ((n : ℕ) → P (Refused n)) → P (opened w m)
 unfolding opened
 opened-is w m P f r = go (accepted w m) (eqb (at w DAMAGE) 0)
   where
-    go : (a d : Bool) → P (cond a (cond d (Fits (layOf (sizesAt w))) (Refused 8)) (Refused 1))
+    go : (a d : Bool) → P (cond a (cond d (Fits (sizesAt w)) (Refused 8)) (Refused 1))
     go true true = f
     go true false = r 8
     go false d = r 1

@@ -1,6 +1,6 @@
 // The single step (document 01, 'Steps and pacing'; the source's gc_singlestep and call_gc_finalizer): one unit of work in the
 // phase that the words say. Phases are Pause 0, Propagate 1, SweepString 2, Sweep 3, Finalize 4.
-use layout::Lay;
+use layout::Sizes;
 use lists::Item;
 use lists::Popped;
 use propagate::Propagated;
@@ -9,6 +9,7 @@ use value::Value;
 ghost use mathlib.Core.Path.{_≡_};
 ghost use Prim.Native.Nat.{_+_, _≤_, _<_};
 ghost use lib.ListN.{length};
+ghost use Rattle.layout.specs.Layout.{layOf};
 ghost use Rattle.base.specs.Heap.{heap};
 ghost use Rattle.laid.specs.Laid.{Laid};
 ghost use Rattle.step.specs.Step.{Small, startCycle, propagateStep, methodOf, handedOut, lowerEstimate, finalize, finalizeItem, endCycle, finalizeStep, singleStep};
@@ -20,10 +21,10 @@ pub enum Single {
 }
 
 // The lists are emptied, the roots marked, and the phase is Propagate.
-pub fn start_cycle(w: &mut [u32], l: Lay)
-    requires { ⌜ Laid l ⌝ }
-    requires { ⌜ l .words ≤ length (now w) ⌝ }
-    ensures { λ _. ⌜ now (w .exit) ≡ startCycle l (now (w .entry)) ⌝ }
+pub fn start_cycle(w: &mut [u32], l: Sizes)
+    requires { ⌜ Laid (layOf l) ⌝ }
+    requires { ⌜ layOf l .words ≤ length (now w) ⌝ }
+    ensures { λ _. ⌜ now (w .exit) ≡ startCycle (layOf l) (now (w .entry)) ⌝ }
 {
     propagate::clear_lists(w, l);
     propagate::mark_roots(w, l);
@@ -31,11 +32,11 @@ pub fn start_cycle(w: &mut [u32], l: Lay)
 }
 
 // One gray object; where there is none, the atomic phase, at cost 0.
-fn propagate_step(w: &mut [u32], b: &[u8], l: Lay) -> usize
-    requires { ⌜ Laid l ⌝ }
-    requires { ⌜ l .words ≤ length (now w) ⌝ }
-    requires { ⌜ l .bytes ≤ length (now b) ⌝ }
-    ensures { λ c. ⌜ ((c, now (w .exit)) ≡ propagateStep l (now (b .entry)) (now (w .entry))) × (c ≤ 5632) ⌝ }
+fn propagate_step(w: &mut [u32], b: &[u8], l: Sizes) -> usize
+    requires { ⌜ Laid (layOf l) ⌝ }
+    requires { ⌜ layOf l .words ≤ length (now w) ⌝ }
+    requires { ⌜ layOf l .bytes ≤ length (now b) ⌝ }
+    ensures { λ c. ⌜ ((c, now (w .exit)) ≡ propagateStep (layOf l) (now (b .entry)) (now (w .entry))) × (c ≤ 5632) ⌝ }
 {
     match propagate::propagate_one(w, b, l) {
         Propagated::Done(c) => c,
@@ -48,15 +49,16 @@ fn propagate_step(w: &mut [u32], b: &[u8], l: Lay) -> usize
 }
 
 // The method is looked up now, and not as it was when the userdata was queued; nil where there is none.
-fn method_of(w: &[u32], l: Lay, r: UdRef) -> Value
-    requires { ⌜ Laid l ⌝ }
-    requires { ⌜ l .words ≤ length (now w) ⌝ }
-    ensures { λ v. ⌜ v ≡ methodOf l r (now (w .entry)) ⌝ }
+fn method_of(w: &[u32], l: Sizes, r: UdRef) -> Value
+    requires { ⌜ Laid (layOf l) ⌝ }
+    requires { ⌜ layOf l .words ≤ length (now w) ⌝ }
+    ensures { λ v. ⌜ v ≡ methodOf (layOf l) r (now (w .entry)) ⌝ }
 {
-    if mark::shade(w, l.userdata, r.0, r.1) == 0 {
+    let userdata = layout::userdata_of(l);
+    if mark::shade(w, userdata, r.0, r.1) == 0 {
         return Value::Nil;
     }
-    let p = record::body_of(w, l.userdata, base::wide(r.0));
+    let p = record::body_of(w, userdata, base::wide(r.0));
     modes::gc_method(w, l, record::userdata::ud_meta(w, p))
 }
 
@@ -78,10 +80,10 @@ pub fn lower_estimate(w: &mut [u32])
     base::put(w, layout::ESTIMATE, pacing::lowered(e));
 }
 
-fn finalize(w: &mut [u32], l: Lay, r: UdRef) -> Single
-    requires { ⌜ Laid l ⌝ }
-    requires { ⌜ l .words ≤ length (now w) ⌝ }
-    ensures { λ x. ⌜ ((x, now (w .exit)) ≡ finalize l r (now (w .entry))) × Small x ⌝ }
+fn finalize(w: &mut [u32], l: Sizes, r: UdRef) -> Single
+    requires { ⌜ Laid (layOf l) ⌝ }
+    requires { ⌜ layOf l .words ≤ length (now w) ⌝ }
+    ensures { λ x. ⌜ ((x, now (w .exit)) ≡ finalize (layOf l) r (now (w .entry))) × Small x ⌝ }
 {
     let v = method_of(w, l, r);
     if value::is_nil(v) {
@@ -93,10 +95,10 @@ fn finalize(w: &mut [u32], l: Lay, r: UdRef) -> Single
 }
 
 // An unknown item is taken out at cost 0.
-fn finalize_item(w: &mut [u32], l: Lay, x: Item) -> Single
-    requires { ⌜ Laid l ⌝ }
-    requires { ⌜ l .words ≤ length (now w) ⌝ }
-    ensures { λ r. ⌜ ((r, now (w .exit)) ≡ finalizeItem l x (now (w .entry))) × Small r ⌝ }
+fn finalize_item(w: &mut [u32], l: Sizes, x: Item) -> Single
+    requires { ⌜ Laid (layOf l) ⌝ }
+    requires { ⌜ layOf l .words ≤ length (now w) ⌝ }
+    ensures { λ r. ⌜ ((r, now (w .exit)) ≡ finalizeItem (layOf l) x (now (w .entry))) × Small r ⌝ }
 {
     match x {
         Item::Userdata(r) => finalize(w, l, r),
@@ -114,12 +116,12 @@ fn end_cycle(w: &mut [u32])
 }
 
 // The queue's end.
-fn finalize_step(w: &mut [u32], l: Lay) -> Single
-    requires { ⌜ Laid l ⌝ }
-    requires { ⌜ l .words ≤ length (now w) ⌝ }
-    ensures { λ r. ⌜ ((r, now (w .exit)) ≡ finalizeStep l (now (w .entry))) × Small r ⌝ }
+fn finalize_step(w: &mut [u32], l: Sizes) -> Single
+    requires { ⌜ Laid (layOf l) ⌝ }
+    requires { ⌜ layOf l .words ≤ length (now w) ⌝ }
+    ensures { λ r. ⌜ ((r, now (w .exit)) ≡ finalizeStep (layOf l) (now (w .entry))) × Small r ⌝ }
 {
-    match lists::pop(w, l.queue) {
+    match lists::pop(w, layout::queue_of(l)) {
         Popped::Got(x) => finalize_item(w, l, x),
         Popped::Nothing => {
             end_cycle(w);
@@ -129,11 +131,11 @@ fn finalize_step(w: &mut [u32], l: Lay) -> Single
 }
 
 // One step. A string sweep step costs 10, another 800; marking roots, the atomic step and the end 0.
-pub fn single_step(w: &mut [u32], b: &mut [u8], l: Lay) -> Single
-    requires { ⌜ Laid l ⌝ }
-    requires { ⌜ l .words ≤ length (now w) ⌝ }
-    requires { ⌜ l .bytes ≤ length (now b) ⌝ }
-    ensures { λ r. ⌜ ((r, heap (now (w .exit)) (now (b .exit))) ≡ singleStep l (heap (now (w .entry)) (now (b .entry)))) × Small r ⌝ }
+pub fn single_step(w: &mut [u32], b: &mut [u8], l: Sizes) -> Single
+    requires { ⌜ Laid (layOf l) ⌝ }
+    requires { ⌜ layOf l .words ≤ length (now w) ⌝ }
+    requires { ⌜ layOf l .bytes ≤ length (now b) ⌝ }
+    ensures { λ r. ⌜ ((r, heap (now (w .exit)) (now (b .exit))) ≡ singleStep (layOf l) (heap (now (w .entry)) (now (b .entry)))) × Small r ⌝ }
 {
     let phase = base::get(w, layout::PHASE);
     match phase {

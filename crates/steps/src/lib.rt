@@ -3,12 +3,13 @@
 // check only tests the limit.
 use accounts::Answer;
 use accounts::Turn;
-use layout::Lay;
 use layout::Opened;
+use layout::Sizes;
 use step::Single;
 ghost use mathlib.Core.Path.{_≡_};
 ghost use Prim.Native.Nat.{_≤_, _<_};
 ghost use lib.ListN.{length};
+ghost use Rattle.layout.specs.Layout.{layOf};
 ghost use Rattle.base.specs.Heap.{heap};
 ghost use Rattle.laid.specs.Laid.{Laid};
 ghost use Rattle.steps.specs.Steps.{isOut, isDue, singleIn, gcSinglestep, budgetIn, gcStep, autoIn, gcStepAuto, checkIn, gcCheck, fullIn, fullGc, stepsOn, resumed, succeeded, finishIn, finish, unmarked};
@@ -32,11 +33,11 @@ fn unmarked(w: &[u32], a: Answer) -> Answer
     Answer::Refused(8)
 }
 
-fn single_in(w: &mut [u32], b: &mut [u8], l: Lay) -> Answer
-    requires { ⌜ Laid l ⌝ }
-    requires { ⌜ l .words ≤ length (now w) ⌝ }
-    requires { ⌜ l .bytes ≤ length (now b) ⌝ }
-    ensures { λ r. ⌜ (r, heap (now (w .exit)) (now (b .exit))) ≡ singleIn l (heap (now (w .entry)) (now (b .entry))) ⌝ }
+fn single_in(w: &mut [u32], b: &mut [u8], l: Sizes) -> Answer
+    requires { ⌜ Laid (layOf l) ⌝ }
+    requires { ⌜ layOf l .words ≤ length (now w) ⌝ }
+    requires { ⌜ layOf l .bytes ≤ length (now b) ⌝ }
+    ensures { λ r. ⌜ (r, heap (now (w .exit)) (now (b .exit))) ≡ singleIn (layOf l) (heap (now (w .entry)) (now (b .entry))) ⌝ }
 {
     if is_out(w) {
         return Answer::Busy;
@@ -50,11 +51,11 @@ fn single_in(w: &mut [u32], b: &mut [u8], l: Lay) -> Answer
     }
 }
 
-fn budget_in(w: &mut [u32], b: &mut [u8], l: Lay, budget: u64) -> Answer
-    requires { ⌜ Laid l ⌝ }
-    requires { ⌜ l .words ≤ length (now w) ⌝ }
-    requires { ⌜ l .bytes ≤ length (now b) ⌝ }
-    ensures { λ r. ⌜ (r, heap (now (w .exit)) (now (b .exit))) ≡ budgetIn budget l (heap (now (w .entry)) (now (b .entry))) ⌝ }
+fn budget_in(w: &mut [u32], b: &mut [u8], l: Sizes, budget: u64) -> Answer
+    requires { ⌜ Laid (layOf l) ⌝ }
+    requires { ⌜ layOf l .words ≤ length (now w) ⌝ }
+    requires { ⌜ layOf l .bytes ≤ length (now b) ⌝ }
+    ensures { λ r. ⌜ (r, heap (now (w .exit)) (now (b .exit))) ≡ budgetIn budget (layOf l) (heap (now (w .entry)) (now (b .entry))) ⌝ }
 {
     if is_out(w) {
         return Answer::Busy;
@@ -62,11 +63,11 @@ fn budget_in(w: &mut [u32], b: &mut [u8], l: Lay, budget: u64) -> Answer
     pace::budgeted(w, b, l, accounts::BUDGETED, budget)
 }
 
-fn auto_in(w: &mut [u32], b: &mut [u8], l: Lay) -> Answer
-    requires { ⌜ Laid l ⌝ }
-    requires { ⌜ l .words ≤ length (now w) ⌝ }
-    requires { ⌜ l .bytes ≤ length (now b) ⌝ }
-    ensures { λ r. ⌜ (r, heap (now (w .exit)) (now (b .exit))) ≡ autoIn l (heap (now (w .entry)) (now (b .entry))) ⌝ }
+fn auto_in(w: &mut [u32], b: &mut [u8], l: Sizes) -> Answer
+    requires { ⌜ Laid (layOf l) ⌝ }
+    requires { ⌜ layOf l .words ≤ length (now w) ⌝ }
+    requires { ⌜ layOf l .bytes ≤ length (now b) ⌝ }
+    ensures { λ r. ⌜ (r, heap (now (w .exit)) (now (b .exit))) ≡ autoIn (layOf l) (heap (now (w .entry)) (now (b .entry))) ⌝ }
 {
     accounts::grow_debt(w);
     let stepmul = base::get(w, layout::STEPMUL);
@@ -84,11 +85,11 @@ fn is_due(w: &[u32]) -> bool
     base::get64(w, layout::THRESHOLD) <= base::get(w, layout::TOTAL) as u64
 }
 
-fn check_in(w: &mut [u32], b: &mut [u8], l: Lay) -> Answer
-    requires { ⌜ Laid l ⌝ }
-    requires { ⌜ l .words ≤ length (now w) ⌝ }
-    requires { ⌜ l .bytes ≤ length (now b) ⌝ }
-    ensures { λ r. ⌜ (r, heap (now (w .exit)) (now (b .exit))) ≡ checkIn l (heap (now (w .entry)) (now (b .entry))) ⌝ }
+fn check_in(w: &mut [u32], b: &mut [u8], l: Sizes) -> Answer
+    requires { ⌜ Laid (layOf l) ⌝ }
+    requires { ⌜ layOf l .words ≤ length (now w) ⌝ }
+    requires { ⌜ layOf l .bytes ≤ length (now b) ⌝ }
+    ensures { λ r. ⌜ (r, heap (now (w .exit)) (now (b .exit))) ≡ checkIn (layOf l) (heap (now (w .entry)) (now (b .entry))) ⌝ }
 {
     if is_due(w) {
         let a = pace::automatic(w, b, l, accounts::CHECK);
@@ -97,11 +98,11 @@ fn check_in(w: &mut [u32], b: &mut [u8], l: Lay) -> Answer
     accounts::limited(w, Answer::Passed)
 }
 
-fn full_in(w: &mut [u32], b: &mut [u8], l: Lay) -> Answer
-    requires { ⌜ Laid l ⌝ }
-    requires { ⌜ l .words ≤ length (now w) ⌝ }
-    requires { ⌜ l .bytes ≤ length (now b) ⌝ }
-    ensures { λ r. ⌜ (r, heap (now (w .exit)) (now (b .exit))) ≡ fullIn l (heap (now (w .entry)) (now (b .entry))) ⌝ }
+fn full_in(w: &mut [u32], b: &mut [u8], l: Sizes) -> Answer
+    requires { ⌜ Laid (layOf l) ⌝ }
+    requires { ⌜ layOf l .words ≤ length (now w) ⌝ }
+    requires { ⌜ layOf l .bytes ≤ length (now b) ⌝ }
+    ensures { λ r. ⌜ (r, heap (now (w .exit)) (now (b .exit))) ≡ fullIn (layOf l) (heap (now (w .entry)) (now (b .entry))) ⌝ }
 {
     if is_out(w) {
         return Answer::Busy;
@@ -111,11 +112,11 @@ fn full_in(w: &mut [u32], b: &mut [u8], l: Lay) -> Answer
 }
 
 // A budgeted step goes on after the finalizer's 100.
-fn steps_on(w: &mut [u32], b: &mut [u8], l: Lay, kind: u32, left: u64) -> Answer
-    requires { ⌜ Laid l ⌝ }
-    requires { ⌜ l .words ≤ length (now w) ⌝ }
-    requires { ⌜ l .bytes ≤ length (now b) ⌝ }
-    ensures { λ r. ⌜ (r, heap (now (w .exit)) (now (b .exit))) ≡ stepsOn l kind left (heap (now (w .entry)) (now (b .entry))) ⌝ }
+fn steps_on(w: &mut [u32], b: &mut [u8], l: Sizes, kind: u32, left: u64) -> Answer
+    requires { ⌜ Laid (layOf l) ⌝ }
+    requires { ⌜ layOf l .words ≤ length (now w) ⌝ }
+    requires { ⌜ layOf l .bytes ≤ length (now b) ⌝ }
+    ensures { λ r. ⌜ (r, heap (now (w .exit)) (now (b .exit))) ≡ stepsOn (layOf l) kind left (heap (now (w .entry)) (now (b .entry))) ⌝ }
 {
     match accounts::after_cost(w, left, 100) {
         Turn::Left(k) => pace::budgeted(w, b, l, kind, k),
@@ -124,11 +125,11 @@ fn steps_on(w: &mut [u32], b: &mut [u8], l: Lay, kind: u32, left: u64) -> Answer
 }
 
 // What was interrupted goes on.
-fn resume(w: &mut [u32], b: &mut [u8], l: Lay, kind: u32, left: u64) -> Answer
-    requires { ⌜ Laid l ⌝ }
-    requires { ⌜ l .words ≤ length (now w) ⌝ }
-    requires { ⌜ l .bytes ≤ length (now b) ⌝ }
-    ensures { λ r. ⌜ (r, heap (now (w .exit)) (now (b .exit))) ≡ resumed l kind left (heap (now (w .entry)) (now (b .entry))) ⌝ }
+fn resume(w: &mut [u32], b: &mut [u8], l: Sizes, kind: u32, left: u64) -> Answer
+    requires { ⌜ Laid (layOf l) ⌝ }
+    requires { ⌜ layOf l .words ≤ length (now w) ⌝ }
+    requires { ⌜ layOf l .bytes ≤ length (now b) ⌝ }
+    ensures { λ r. ⌜ (r, heap (now (w .exit)) (now (b .exit))) ≡ resumed (layOf l) kind left (heap (now (w .entry)) (now (b .entry))) ⌝ }
 {
     match kind {
         1 => Answer::Stepped(100),
@@ -153,11 +154,11 @@ fn succeed(w: &mut [u32])
     step::lower_estimate(w);
 }
 
-fn finish_in(w: &mut [u32], b: &mut [u8], l: Lay, ok: bool) -> Answer
-    requires { ⌜ Laid l ⌝ }
-    requires { ⌜ l .words ≤ length (now w) ⌝ }
-    requires { ⌜ l .bytes ≤ length (now b) ⌝ }
-    ensures { λ r. ⌜ (r, heap (now (w .exit)) (now (b .exit))) ≡ finishIn ok l (heap (now (w .entry)) (now (b .entry))) ⌝ }
+fn finish_in(w: &mut [u32], b: &mut [u8], l: Sizes, ok: bool) -> Answer
+    requires { ⌜ Laid (layOf l) ⌝ }
+    requires { ⌜ layOf l .words ≤ length (now w) ⌝ }
+    requires { ⌜ layOf l .bytes ≤ length (now b) ⌝ }
+    ensures { λ r. ⌜ (r, heap (now (w .exit)) (now (b .exit))) ≡ finishIn ok (layOf l) (heap (now (w .entry)) (now (b .entry))) ⌝ }
 {
     let kind = base::get(w, layout::INTERRUPTED);
     if kind == 0 {

@@ -21,14 +21,14 @@ use Rattle.layout.specs.Sizes.{SizesOk}
 use Rattle.layout.specs.Layout.{layOf}
 use Rattle.layout.specs.Places.{PHASE, WHITE, CURSOR-SLOT}
 use Rattle.lists.specs.Lists.{damage, lengthOf}
-use Rattle.laid.specs.Laid.{Laid}
+use Rattle.laid.specs.Laid.{Laid, laid-of}
 use Rattle.mark.specs.Ops.{Ref, ref, otherWhite}
 use Rattle.mark.specs.Words.{arenaOf, colourW}
 use Rattle.propagate.specs.Propagation.{rounds}
 use Rattle.atomic.specs.Atomic.{marked, finished, atomic}
 use Rattle.sweep_step.specs.Rooms.{swept-wide, strings-wide}
 use Rattle.step.specs.Step.{startCycle, singleStep}
-use Rattle.mark_laws.specs.Apart.{Apart, apart, laid-of}
+use Rattle.mark_laws.specs.Apart.{Apart, apart}
 use Rattle.mark_laws.specs.Colours.{shade-parts}
 use Rattle.mark_laws.specs.Changes.{tops}
 use Rattle.room_laws.specs.Tallies.{Ample, ample}

@@ -2,10 +2,11 @@
 // slots of the arena at the cursor, what they took off total and estimate, and the cursor moved.
 use arena::Arena;
 use arena::Swept;
-use layout::Lay;
+use layout::Sizes;
 ghost use mathlib.Core.Path.{_≡_};
 ghost use Prim.Native.Nat.{ℕ, _+_, _*_, _^_, _≤_, _<_, max};
 ghost use lib.ListN.{length};
+ghost use Rattle.layout.specs.Layout.{layOf};
 ghost use Rattle.base.specs.Heap.{heap};
 ghost use Rattle.arena.specs.Slots.{Room, Wide};
 ghost use Rattle.laid.specs.Laid.{Laid};
@@ -70,15 +71,16 @@ pub fn write_cursor(w: &mut [u32], c: SweepCursor)
 }
 
 // A stored arena index past 4 is threads.
-fn arena_at(l: Lay, k: u32) -> Arena
-    ensures { λ r. ⌜ r ≡ arenaAt l k ⌝ }
+fn arena_at(l: Sizes, k: u32) -> Arena
+    requires { ⌜ Laid (layOf l) ⌝ }
+    ensures { λ r. ⌜ r ≡ arenaAt (layOf l) k ⌝ }
 {
     match k {
-        0 => l.tables,
-        1 => l.functions,
-        2 => l.upvalues,
-        3 => l.userdata,
-        _ => l.threads,
+        0 => layout::tables_of(l),
+        1 => layout::functions_of(l),
+        2 => layout::upvalues_of(l),
+        3 => layout::userdata_of(l),
+        _ => layout::threads_of(l),
     }
 }
 
@@ -135,14 +137,14 @@ fn move_strings(w: &mut [u32], c: SweepCursor, s: Swept)
 }
 
 // A batch of strings. It costs 10.
-pub fn sweep_strings_step(w: &mut [u32], b: &mut [u8], l: Lay)
-    requires { ⌜ Laid l ⌝ }
-    requires { ⌜ l .words ≤ length (now w) ⌝ }
-    requires { ⌜ l .bytes ≤ length (now b) ⌝ }
-    ensures { λ _. ⌜ heap (now (w .exit)) (now (b .exit)) ≡ sweepStrings l (heap (now (w .entry)) (now (b .entry))) ⌝ }
+pub fn sweep_strings_step(w: &mut [u32], b: &mut [u8], l: Sizes)
+    requires { ⌜ Laid (layOf l) ⌝ }
+    requires { ⌜ layOf l .words ≤ length (now w) ⌝ }
+    requires { ⌜ layOf l .bytes ≤ length (now b) ⌝ }
+    ensures { λ _. ⌜ heap (now (w .exit)) (now (b .exit)) ≡ sweepStrings (layOf l) (heap (now (w .entry)) (now (b .entry))) ⌝ }
 {
     let c = read_cursor(w);
-    let s = sweep_arena(w, b, l.strings, 48, c.slot_position);
+    let s = sweep_arena(w, b, layout::strings_of(l), 48, c.slot_position);
     move_strings(w, c, s);
 }
 
@@ -163,11 +165,11 @@ fn move_others(w: &mut [u32], c: SweepCursor, s: Swept)
 }
 
 // A batch of the others. It costs 800.
-pub fn sweep_other_step(w: &mut [u32], b: &mut [u8], l: Lay)
-    requires { ⌜ Laid l ⌝ }
-    requires { ⌜ l .words ≤ length (now w) ⌝ }
-    requires { ⌜ l .bytes ≤ length (now b) ⌝ }
-    ensures { λ _. ⌜ heap (now (w .exit)) (now (b .exit)) ≡ sweepOthers l (heap (now (w .entry)) (now (b .entry))) ⌝ }
+pub fn sweep_other_step(w: &mut [u32], b: &mut [u8], l: Sizes)
+    requires { ⌜ Laid (layOf l) ⌝ }
+    requires { ⌜ layOf l .words ≤ length (now w) ⌝ }
+    requires { ⌜ layOf l .bytes ≤ length (now b) ⌝ }
+    ensures { λ _. ⌜ heap (now (w .exit)) (now (b .exit)) ≡ sweepOthers (layOf l) (heap (now (w .entry)) (now (b .entry))) ⌝ }
 {
     let c = read_cursor(w);
     let k = c.arena_index;

@@ -2,24 +2,25 @@
 // 2, and changes nothing where it refuses. The backward barrier follows the store; where it set the damage mark the answer is 8.
 use arena::Named;
 use given::Served;
-use layout::Lay;
 use layout::Opened;
+use layout::Sizes;
 use value::TableOr;
 use value::TableRef;
 use value::Value;
 ghost use mathlib.Core.Path.{_≡_};
 ghost use Prim.Native.Nat.{_+_, _≤_};
 ghost use lib.ListN.{length};
+ghost use Rattle.layout.specs.Layout.{layOf};
 ghost use Rattle.base.specs.Heap.{heap};
 ghost use Rattle.laid.specs.Laid.{Laid};
 ghost use Rattle.table_calls.specs.TableCalls.{storeAt, tableSetIn, tableSet, storeMeta, tableSetMetaIn, tableSetMeta};
 
 // Place i of the array of table t, whose record is at p.
-fn store_at(w: &mut [u32], l: Lay, t: TableRef, i: usize, v: Value, p: usize) -> Served
-    requires { ⌜ Laid l ⌝ }
-    requires { ⌜ l .words ≤ length (now w) ⌝ }
+fn store_at(w: &mut [u32], l: Sizes, t: TableRef, i: usize, v: Value, p: usize) -> Served
+    requires { ⌜ Laid (layOf l) ⌝ }
+    requires { ⌜ layOf l .words ≤ length (now w) ⌝ }
     requires { ⌜ p + 580 ≤ length (now w) ⌝ }
-    ensures { λ r. ⌜ (r, now (w .exit)) ≡ storeAt l t i v p (now (w .entry)) ⌝ }
+    ensures { λ r. ⌜ (r, now (w .exit)) ≡ storeAt (layOf l) t i v p (now (w .entry)) ⌝ }
 {
     if record::tables::array_size(w, p) <= i {
         return Served::Refused(4);
@@ -32,14 +33,15 @@ fn store_at(w: &mut [u32], l: Lay, t: TableRef, i: usize, v: Value, p: usize) ->
     Served::Done
 }
 
-fn table_set_in(w: &mut [u32], l: Lay, t: TableRef, i: u32, v: Value) -> Served
-    requires { ⌜ Laid l ⌝ }
-    requires { ⌜ l .words ≤ length (now w) ⌝ }
-    ensures { λ r. ⌜ (r, now (w .exit)) ≡ tableSetIn t i v l (now (w .entry)) ⌝ }
+fn table_set_in(w: &mut [u32], l: Sizes, t: TableRef, i: u32, v: Value) -> Served
+    requires { ⌜ Laid (layOf l) ⌝ }
+    requires { ⌜ layOf l .words ≤ length (now w) ⌝ }
+    ensures { λ r. ⌜ (r, now (w .exit)) ≡ tableSetIn t i v (layOf l) (now (w .entry)) ⌝ }
 {
-    match arena::name_of(w, l.tables, t.0, t.1) {
+    let tables = layout::tables_of(l);
+    match arena::name_of(w, tables, t.0, t.1) {
         Named::At(n) => {
-            let p = record::body_of(w, l.tables, n);
+            let p = record::body_of(w, tables, n);
             store_at(w, l, t, base::wide(i), v, p)
         }
         Named::Stale => Served::Refused(2),
@@ -61,11 +63,11 @@ pub fn table_set(w: &mut [u32], b: &[u8], t: TableRef, i: u32, v: Value) -> Serv
 }
 
 // The metatable of table t, whose record is at p.
-fn store_meta(w: &mut [u32], l: Lay, t: TableRef, m: TableOr, p: usize) -> Served
-    requires { ⌜ Laid l ⌝ }
-    requires { ⌜ l .words ≤ length (now w) ⌝ }
+fn store_meta(w: &mut [u32], l: Sizes, t: TableRef, m: TableOr, p: usize) -> Served
+    requires { ⌜ Laid (layOf l) ⌝ }
+    requires { ⌜ layOf l .words ≤ length (now w) ⌝ }
     requires { ⌜ p + 580 ≤ length (now w) ⌝ }
-    ensures { λ r. ⌜ (r, now (w .exit)) ≡ storeMeta l t m p (now (w .entry)) ⌝ }
+    ensures { λ r. ⌜ (r, now (w .exit)) ≡ storeMeta (layOf l) t m p (now (w .entry)) ⌝ }
 {
     if !given::is_table_or(w, l, m) {
         return Served::Refused(2);
@@ -75,14 +77,15 @@ fn store_meta(w: &mut [u32], l: Lay, t: TableRef, m: TableOr, p: usize) -> Serve
     Served::Done
 }
 
-fn table_set_meta_in(w: &mut [u32], l: Lay, t: TableRef, m: TableOr) -> Served
-    requires { ⌜ Laid l ⌝ }
-    requires { ⌜ l .words ≤ length (now w) ⌝ }
-    ensures { λ r. ⌜ (r, now (w .exit)) ≡ tableSetMetaIn t m l (now (w .entry)) ⌝ }
+fn table_set_meta_in(w: &mut [u32], l: Sizes, t: TableRef, m: TableOr) -> Served
+    requires { ⌜ Laid (layOf l) ⌝ }
+    requires { ⌜ layOf l .words ≤ length (now w) ⌝ }
+    ensures { λ r. ⌜ (r, now (w .exit)) ≡ tableSetMetaIn t m (layOf l) (now (w .entry)) ⌝ }
 {
-    match arena::name_of(w, l.tables, t.0, t.1) {
+    let tables = layout::tables_of(l);
+    match arena::name_of(w, tables, t.0, t.1) {
         Named::At(n) => {
-            let p = record::body_of(w, l.tables, n);
+            let p = record::body_of(w, tables, n);
             store_meta(w, l, t, m, p)
         }
         Named::Stale => Served::Refused(2),

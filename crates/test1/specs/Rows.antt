@@ -26,7 +26,7 @@ module _ (w : List ℕ) (m : ℕ) where
   unfolding opened
   opened-8 p q = rw (p, ne-eqb (at w DAMAGE) 0 q)
 
-  pub opened-else : accepted w m ≡ true → at w DAMAGE ≡ 0 → opened w m ≡ Fits (layOf (sizesAt w))
+  pub opened-else : accepted w m ≡ true → at w DAMAGE ≡ 0 → opened w m ≡ Fits (sizesAt w)
   unfolding opened
   opened-else p q = rw (p, eq-eqb (at w DAMAGE) 0 q)
 

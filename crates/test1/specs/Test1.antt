@@ -85,6 +85,6 @@ accepted w m =
     && leb (layOf (sizesAt w) .words) (length w)
     && leb (layOf (sizesAt w) .bytes) m
 
--- Every call begins so: 1; then 8, if the damage mark was set before the call; else it has the layout.
+-- Every call begins so: 1; then 8, if the damage mark was set before the call; else it has the sizes of the layout.
 unfoldable pub opened : List ℕ → ℕ → Opened
-opened w m = cond (accepted w m) (cond (eqb (at w DAMAGE) 0) (Fits (layOf (sizesAt w))) (Refused 8)) (Refused 1)
+opened w m = cond (accepted w m) (cond (eqb (at w DAMAGE) 0) (Fits (sizesAt w)) (Refused 8)) (Refused 1)

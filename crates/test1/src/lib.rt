@@ -102,8 +102,8 @@ fn counts_fit(w: &[u32], s: Sizes) -> bool
     arenas_fit(w, s) & lists_fit(w, s) & main_fits(w, s) & state_fits(w)
 }
 
-// What every call begins with: test 1, then the damage mark, else the layout. It reads the header alone and the two
-// lengths, so its cost does not grow with the slots. The layout is handed on as it was made, and not made anew.
+// What every call begins with: test 1, then the damage mark, else the sizes of its layout. It reads the header alone and the
+// two lengths, so its cost does not grow with the slots.
 pub fn enter(w: &[u32], b: &[u8]) -> Opened
     ensures { λ r. ⌜ (r ≡ opened (now (w .entry)) (length (now (b .entry)))) × Gives r (length (now (w .entry))) (length (now (b .entry))) ⌝ }
 {
@@ -111,21 +111,20 @@ pub fn enter(w: &[u32], b: &[u8]) -> Opened
         return Opened::Refused(1);
     }
     let s = sizes_at(w);
-    let o = layout::plan(s);
-    let Opened::Fits(l) = o else {
+    if !layout::sizes_fit(s) {
         return Opened::Refused(1);
-    };
+    }
     if !counts_fit(w, s) {
         return Opened::Refused(1);
     }
-    if w.len() < l.words {
+    if w.len() < layout::words_of(s) {
         return Opened::Refused(1);
     }
-    if b.len() < l.bytes {
+    if b.len() < layout::bytes_of(s) {
         return Opened::Refused(1);
     }
     if base::get(w, layout::DAMAGE) != 0 {
         return Opened::Refused(8);
     }
-    o
+    Opened::Fits(s)
 }

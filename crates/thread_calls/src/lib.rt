@@ -1,8 +1,8 @@
 // The calls that give a thread its global table and its error value (document 01, module 5). Each gives 1 and 8 first, then 2 for
 // a handle that names no thread, then 2 for what is given to store, and changes nothing where it refuses.
 use given::Served;
-use layout::Lay;
 use layout::Opened;
+use layout::Sizes;
 use owners::Body;
 use value::TableOr;
 use value::TableRef;
@@ -11,16 +11,17 @@ use value::Value;
 ghost use mathlib.Core.Path.{_≡_};
 ghost use Prim.Native.Nat.{_+_, _≤_};
 ghost use lib.ListN.{length};
+ghost use Rattle.layout.specs.Layout.{layOf};
 ghost use Rattle.base.specs.Heap.{heap};
 ghost use Rattle.laid.specs.Laid.{Laid};
 ghost use Rattle.thread_calls.specs.ThreadCalls.{globalAt, threadSetGlobal, threadSetError};
 
 // The global table of the thread whose record is at p.
-fn set_global_at(w: &mut [u32], l: Lay, p: usize, g: TableRef) -> Served
-    requires { ⌜ Laid l ⌝ }
-    requires { ⌜ l .words ≤ length (now w) ⌝ }
+fn set_global_at(w: &mut [u32], l: Sizes, p: usize, g: TableRef) -> Served
+    requires { ⌜ Laid (layOf l) ⌝ }
+    requires { ⌜ layOf l .words ≤ length (now w) ⌝ }
     requires { ⌜ p + 268 ≤ length (now w) ⌝ }
-    ensures { λ r. ⌜ (r, now (w .exit)) ≡ globalAt l g p (now (w .entry)) ⌝ }
+    ensures { λ r. ⌜ (r, now (w .exit)) ≡ globalAt (layOf l) g p (now (w .entry)) ⌝ }
 {
     if !given::is_table(w, l, g) {
         return Served::Refused(2);

@@ -1,21 +1,22 @@
 // Lists of upvalues' handles, two words for each place, of the main record and of threads alike: a `Counted` says where one lies.
 use given::Served;
-use layout::Lay;
+use layout::Sizes;
 use stacks::Counted;
 use value::UpvalRef;
 ghost use mathlib.Core.Path.{_≡_};
 ghost use Prim.Native.Nat.{_≤_};
 ghost use lib.ListN.{length};
+ghost use Rattle.layout.specs.Layout.{layOf};
 ghost use Rattle.laid.specs.Laid.{Laid};
 ghost use Rattle.stacks.specs.Places.{Holds};
 ghost use Rattle.upvalue_lists.specs.Lists.{pushUpvalue, cutUpvalues};
 
 // An upvalue at the end of a list.
-pub fn push_upvalue(w: &mut [u32], l: Lay, s: Counted, u: UpvalRef) -> Served
-    requires { ⌜ Laid l ⌝ }
-    requires { ⌜ l .words ≤ length (now w) ⌝ }
+pub fn push_upvalue(w: &mut [u32], l: Sizes, s: Counted, u: UpvalRef) -> Served
+    requires { ⌜ Laid (layOf l) ⌝ }
+    requires { ⌜ layOf l .words ≤ length (now w) ⌝ }
     requires { ⌜ Holds s 2 (length (now w)) ⌝ }
-    ensures { λ r. ⌜ (r, now (w .exit)) ≡ pushUpvalue l s u (now (w .entry)) ⌝ }
+    ensures { λ r. ⌜ (r, now (w .exit)) ≡ pushUpvalue (layOf l) s u (now (w .entry)) ⌝ }
 {
     if s.room <= s.count {
         return Served::Refused(4);

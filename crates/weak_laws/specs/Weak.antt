@@ -39,7 +39,7 @@ use Rattle.lists.specs.Laws.{item-found, cleared-kept}
 use Rattle.record.specs.Fields.{bodyAt}
 use Rattle.record.specs.Tables.{tableMeta, arraySize, nodeNumber, nodeCount, arrayPlace, arrayValue, nodePlace, nodeKey, nodeValue}
 use Rattle.record.specs.Userdata.{udFinalized}
-use Rattle.laid.specs.Laid.{Laid, weak-room}
+use Rattle.laid.specs.Laid.{Laid, weak-room, laid-of}
 use Rattle.mark.specs.Ops.{Ref, ref, tab, ud, otherWhite}
 use Rattle.mark.specs.Words.{arenaOf, shade, colourW}
 use Rattle.modes.specs.declared.Mode.{Mode}
@@ -52,7 +52,7 @@ use Rattle.atomic.specs.Atomic.{marked, finished, flipped, begun, atomic}
 use Rattle.step.specs.Step.{startCycle}
 use Rattle.link_laws.specs.Agrees.{Agree, table-same, bounded-most, nodes-most}
 use Rattle.link_laws.specs.Reads.{Reads, weak-mode-same}
-use Rattle.mark_laws.specs.Apart.{Apart, Order, order, apart, laid-of}
+use Rattle.mark_laws.specs.Apart.{Apart, Order, order, apart}
 use Rattle.mark_laws.specs.Colours.{shade-parts, named-shade}
 use Rattle.mark_laws.specs.Changes.{Marked, past}
 use Rattle.mark_laws.specs.Stays.{below}

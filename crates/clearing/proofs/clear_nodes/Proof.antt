@@ -2,6 +2,7 @@
 use Prim.Native.Nat.{_-_}
 use mathlib.Core.Path.{refl, _∙_}
 use native.Mathlib.Omega.{arith}
+use Rattle.layout.specs.Layout.{layOf}
 use Rattle.base.specs.Loop.{run-again, run-end}
 use Rattle.mark.proofs.Laws.{Going}
 use Rattle.clearing.specs.Entries.{clearNthNode, clearNodes}
@@ -9,7 +10,7 @@ use Rattle.clearing.proofs.clear_nodes.Statement.{statement}
 use Rattle.clearing.proofs.clear_nodes.Tie as tie
 
 abbrev Inv-loop : tie.InvT-loop
-Inv-loop w₀ l old m q n j₀ w j = Going (clearNthNode l old m q) n w₀ w j
+Inv-loop w₀ l old m q n j₀ w j = Going (clearNthNode (layOf l) old m q) n w₀ w j
 
 abbrev μ-loop : tie.MeasureT-loop
 μ-loop w₀ l old m q n j₀ w j = n - j

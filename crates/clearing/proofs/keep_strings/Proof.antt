@@ -2,6 +2,7 @@
 use Prim.Native.Nat.{_-_}
 use mathlib.Core.Path.{refl, _∙_}
 use native.Mathlib.Omega.{arith}
+use Rattle.layout.specs.Layout.{layOf}
 use Rattle.base.specs.Loop.{run-again, run-end}
 use Rattle.mark.proofs.Laws.{Going}
 use Rattle.clearing.specs.Strings.{keepNth, keepStrings}
@@ -9,7 +10,7 @@ use Rattle.clearing.proofs.keep_strings.Statement.{statement}
 use Rattle.clearing.proofs.keep_strings.Tie as tie
 
 abbrev Inv-loop : tie.InvT-loop
-Inv-loop w₀ l white p n i₀ w i = Going (keepNth l white p) n w₀ w i
+Inv-loop w₀ l white p n i₀ w i = Going (keepNth (layOf l) white p) n w₀ w i
 
 abbrev μ-loop : tie.MeasureT-loop
 μ-loop w₀ l white p n i₀ w i = n - i

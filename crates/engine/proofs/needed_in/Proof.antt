@@ -11,18 +11,24 @@ use Rattle.engine.proofs.needed_in.Tie as tie
 plan-requires : tie.Need-plan-requires
 plan-requires c κs = search needs
 
-enum-known-l : tie.Need-enum-known-l
-enum-known-l c = search needs
+enum-known-z : tie.Need-enum-known-z
+enum-known-z c = search needs
 
 returns : tie.Need-returns
 unfolding neededIn neededOf
-returns c = rw (← c .before .before .before .before .plan .ensures .0, c .before .before .l .given .1) (lt-yes _ _ _ _ _ (omega arith) refl)
+returns c = rw (← c .before .before .before .before .plan .ensures .0, c .before .before .z .given .1) (lt-yes _ _ _ _ _ (c .if1 .taken) refl)
+
+words-of-requires : tie.Need-words-of-requires
+words-of-requires c κs = rw (c .before .before .before .z .given .1) at (c .before .before .before .before .before .plan .ensures .1)
 
 cast-put-two : tie.Need-cast-put-two
-cast-put-two c = omega (arith, planned-small _ _ (sym (c .before .before .before .before .l .given .1) ∙ c .before .before .before .before .before .before .plan .ensures .0))
+cast-put-two c = omega (arith, c .words-of .ensures, planned-small _ _ (sym (c .before .before .before .before .z .given .1) ∙ c .before .before .before .before .before .before .plan .ensures .0))
+
+bytes-of-requires : tie.Need-bytes-of-requires
+bytes-of-requires c κs = rw (c .before .before .before .before .z .given .1) at (c .before .before .before .before .before .before .plan .ensures .1)
 
 cast-put-two-2 : tie.Need-cast-put-two-2
-cast-put-two-2 c = omega (arith, planned-small _ _ (sym (c .before .before .before .before .before .l .given .1) ∙ c .before .before .before .before .before .before .before .plan .ensures .0))
+cast-put-two-2 c = omega (arith, c .bytes-of .ensures, planned-small _ _ (sym (c .before .before .before .before .before .z .given .1) ∙ c .before .before .before .before .before .before .before .plan .ensures .0))
 
 put-two-requires : tie.Need-put-two-requires
 put-two-requires c κs = search needs
@@ -35,7 +41,7 @@ same-length c = search needs
 
 returns-2 : tie.Need-returns-2
 unfolding neededIn neededOf
-returns-2 c = rw (← c .before .before .before .before .before .before .before .before .before .before .plan .ensures .0, c .before .before .before .before .before .before .before .before .l .given .1) (lt-no _ _ _ _ _ (omega arith) (cc))
+returns-2 c = rw (← c .before .before .before .before .before .before .before .before .before .before .plan .ensures .0, c .before .before .before .before .before .before .before .before .z .given .1, ← c .before .before .before .before .words-of .ensures, ← c .before .before .before .bytes-of .ensures) (lt-no _ _ _ _ _ (c .before .before .before .before .before .before .if1 .left) (cc))
 
 returns-3 : tie.Need-returns-3
 unfolding neededIn neededOf
@@ -46,9 +52,11 @@ needed-in-spec =
     tie.close
     (tie.spec
     plan-requires
-    enum-known-l
+    enum-known-z
     returns
+    words-of-requires
     cast-put-two
+    bytes-of-requires
     cast-put-two-2
     put-two-requires
     enum-known-n

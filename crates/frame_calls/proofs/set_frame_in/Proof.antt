@@ -2,6 +2,7 @@
 use mathlib.Core.Path.{refl}
 use native.Mathlib.Omega.{arith}
 use borrow.Author.Needs.{needs}
+use Rattle.layout.specs.Layout.{layOf}
 use Rattle.base.specs.Ways.{le-no, le-yes, lt-no, lt-yes}
 use Rattle.laid.specs.Laid.{parts-room}
 use Rattle.frame_calls.specs.FrameCalls.{setFrameIn}
@@ -15,21 +16,22 @@ wide-requires-2 : tie.Need-wide-requires-2
 wide-requires-2 c κs = search needs
 
 returns : tie.Need-returns
-unfolding setFrameIn
+unfolding setFrameIn layOf
 returns c = rw (← c .before .before .before .wide .ensures .0) (le-yes _ _ _ _ _ (c .if1 .taken) refl)
 
 returns-2 : tie.Need-returns-2
-unfolding setFrameIn
+unfolding setFrameIn layOf
 returns-2 c = rw (← c .before .before .before .before .wide .ensures .0, ← c .before .before .before .wide2 .ensures .0) (le-no _ _ _ _ _ (c .before .if1 .left) (lt-yes _ _ _ _ _ (c .if2 .taken) refl))
 
 set-frame-function-requires : tie.Need-set-frame-function-requires
+unfolding layOf
 set-frame-function-requires c κs = (parts-room _ (c .before .before .before .before .before .before .before .args .w .now) (c .before .before .before .before .before .before .before .pre .0) (c .before .before .before .before .before .before .before .pre .1), (omega (arith, c .before .before .if1 .left), omega (arith, c .before .if2 .left)))
 
 same-length : tie.Need-same-length
 same-length c = search needs
 
 returns-3 : tie.Need-returns-3
-unfolding setFrameIn
+unfolding setFrameIn layOf
 returns-3 c = rw (← c .before .before .before .before .before .before .before .before .wide .ensures .0, ← c .before .before .before .before .before .before .before .wide2 .ensures .0) (le-no _ _ _ _ _ (c .before .before .before .before .before .if1 .left) (lt-no _ _ _ _ _ (c .before .before .before .before .if2 .left) (rw (← c .before .before .set-frame-function .ensures))))
 
 pub set-frame-in-spec : {M : Type 1} → statement M

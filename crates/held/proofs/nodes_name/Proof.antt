@@ -5,6 +5,7 @@ use Prim.Native.Nat.{_-_}
 use native.Mathlib.Omega.{arith}
 use borrow.Author.Needs.{needs}
 use borrow.Author.Tests.{not-false, not-true}
+use Rattle.layout.specs.Layout.{layOf}
 use Rattle.making.specs.Turns.{each, each-again, each-stop, eachTurn, turns, turns-end, turns-start}
 use Rattle.record.specs.Tables.{nodeCount}
 use Rattle.held.specs.Held.{nodeNames, nodesName}
@@ -12,7 +13,7 @@ use Rattle.held.proofs.nodes_name.Statement.{statement}
 use Rattle.held.proofs.nodes_name.Tie as tie
 
 abbrev Inv-loop : tie.InvT-loop
-Inv-loop w l p n j₀ j = turns (eachTurn (nodeNames l w p)) true (n - j) j ≡ each (nodeNames l w p) (nodeCount p w)
+Inv-loop w l p n j₀ j = turns (eachTurn (nodeNames (layOf l) w p)) true (n - j) j ≡ each (nodeNames (layOf l) w p) (nodeCount p w)
 
 abbrev μ-loop : tie.MeasureT-loop
 μ-loop w l p n j₀ j = n - j

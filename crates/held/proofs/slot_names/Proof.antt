@@ -1,15 +1,15 @@
 -- `held::slot_names` meets its contract: a free slot has no record. Assumes nothing.
 use mathlib.Core.Path.{refl}
 use native.Mathlib.Omega.{arith}
-use borrow.Author.Needs.{needs}
 use Rattle.base.specs.Ways.{eq-no, eq-yes}
+use Rattle.laid.specs.Laid.{sizes-laid}
 use Rattle.held.specs.Held.{slotNames}
 use Rattle.held.proofs.Laws.{kind-room, kind-words}
 use Rattle.held.proofs.slot_names.Statement.{statement}
 use Rattle.held.proofs.slot_names.Tie as tie
 
 arena-of-requires : tie.Need-arena-of-requires
-arena-of-requires c κs = search needs
+arena-of-requires c κs = sizes-laid _ (c .before .pre .0)
 
 colour-of-requires : tie.Need-colour-of-requires
 colour-of-requires c κs = rw (c .arena-of .ensures) (kind-room _ (c .before .before .args .k) _ (c .before .before .pre .0) (c .before .before .pre .1 .0), c .before .before .pre .1 .1)

@@ -3,24 +3,25 @@ use mathlib.Core.Path.{_∙_, _≡_, sym}
 use mathlib.Core.Bool.{true}
 use Prim.Native.Nat.{_-_}
 use native.Mathlib.Omega.{arith}
-use borrow.Author.Needs.{needs}
 use borrow.Author.Tests.{not-false, not-true}
+use Rattle.layout.specs.Layout.{layOf}
 use Rattle.arena.specs.Slots.{used}
 use Rattle.making.specs.Turns.{each, each-again, each-stop, eachTurn, turns, turns-end, turns-start}
 use Rattle.reads.specs.Objects.{arenaOf}
+use Rattle.laid.specs.Laid.{sizes-laid}
 use Rattle.held.specs.Held.{slotNames, slotsName}
 use Rattle.held.proofs.Laws.{kind-room}
 use Rattle.held.proofs.slots_name.Statement.{statement}
 use Rattle.held.proofs.slots_name.Tie as tie
 
 abbrev Inv-loop : tie.InvT-loop
-Inv-loop w l k n i₀ i = turns (eachTurn (slotNames l w k)) true (n - i) i ≡ each (slotNames l w k) (used (arenaOf l k) w)
+Inv-loop w l k n i₀ i = turns (eachTurn (slotNames (layOf l) w k)) true (n - i) i ≡ each (slotNames (layOf l) w k) (used (arenaOf (layOf l) k) w)
 
 abbrev μ-loop : tie.MeasureT-loop
 μ-loop w l k n i₀ i = n - i
 
 arena-of-requires : tie.Need-arena-of-requires Inv-loop μ-loop
-arena-of-requires c κs = search needs
+arena-of-requires c κs = sizes-laid _ (c .before .pre .0)
 
 used-of-requires : tie.Need-used-of-requires Inv-loop μ-loop
 used-of-requires c κs = rw (c .arena-of .ensures) (kind-room _ (c .before .before .args .k) _ (c .before .before .pre .0) (c .before .before .pre .1))

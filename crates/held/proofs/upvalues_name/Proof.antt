@@ -4,13 +4,14 @@ use mathlib.Core.Bool.{true}
 use Prim.Native.Nat.{_-_}
 use native.Mathlib.Omega.{arith}
 use borrow.Author.Tests.{not-false, not-true}
+use Rattle.layout.specs.Layout.{layOf}
 use Rattle.making.specs.Turns.{each, each-again, each-stop, eachTurn, turns, turns-end, turns-start}
 use Rattle.held.specs.Held.{upvalueNamed, upvaluesName}
 use Rattle.held.proofs.upvalues_name.Statement.{statement}
 use Rattle.held.proofs.upvalues_name.Tie as tie
 
 abbrev Inv-loop : tie.InvT-loop
-Inv-loop w l q n k₀ k = turns (eachTurn (upvalueNamed l w q)) true (n - k) k ≡ each (upvalueNamed l w q) n
+Inv-loop w l q n k₀ k = turns (eachTurn (upvalueNamed (layOf l) w q)) true (n - k) k ≡ each (upvalueNamed (layOf l) w q) n
 
 abbrev μ-loop : tie.MeasureT-loop
 μ-loop w l q n k₀ k = n - k

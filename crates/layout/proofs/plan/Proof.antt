@@ -2,8 +2,6 @@
 use borrow.Author.Needs.{needs}
 use borrow.Author.Tests.{not-true, not-false}
 use mathlib.Core.Path.{sym, _∙_}
-use native.Mathlib.Omega.{arith}
-use Rattle.layout.specs.Fits.{lay-ok}
 use Rattle.layout.specs.Layout.{planned}
 use Rattle.layout.specs.Sizes.{sizes-fit-ok}
 use Rattle.layout.proofs.plan.Statement.{statement}
@@ -16,15 +14,12 @@ returns : tie.Need-returns
 unfolding planned
 returns c = (rw (← c .before .sizes-fit .ensures, not-true (c .before .sizes-fit .result) (c .if1 .taken)), tt)
 
-lay-of-requires : tie.Need-lay-of-requires
-lay-of-requires c κs = sizes-fit-ok _ (sym (c .before .sizes-fit .ensures) ∙ not-false (c .before .sizes-fit .result) (c .if1 .left))
-
 returns-2 : tie.Need-returns-2
 unfolding planned
 returns-2 c = (
-  rw (← c .before .before .sizes-fit .ensures, not-false (c .before .before .sizes-fit .result) (c .before .if1 .left), ← c .lay-of .ensures),
-  rw (c .lay-of .ensures) (lay-ok _ _ _ (sizes-fit-ok _ (sym (c .before .before .sizes-fit .ensures) ∙ not-false (c .before .before .sizes-fit .result) (c .before .if1 .left))) (omega arith) (omega arith)),
+  rw (← c .before .sizes-fit .ensures, not-false (c .before .sizes-fit .result) (c .if1 .left)),
+  sizes-fit-ok _ (sym (c .before .sizes-fit .ensures) ∙ not-false (c .before .sizes-fit .result) (c .if1 .left)),
 )
 
 pub plan-spec : {M : Type 1} → statement M
-plan-spec = tie.close (tie.spec sizes-fit-requires returns lay-of-requires returns-2)
+plan-spec = tie.close (tie.spec sizes-fit-requires returns returns-2)

@@ -5,13 +5,14 @@ use Prim.Native.Nat.{_-_}
 use native.Mathlib.Omega.{arith}
 use lib.ListN.{length}
 use borrow.Author.Tests.{not-false, not-true}
+use Rattle.layout.specs.Layout.{layOf}
 use Rattle.making.specs.Turns.{each, each-again, each-stop, eachTurn, turns, turns-end, turns-start}
 use Rattle.make_protos.specs.Making.{areNestable, canNest}
 use Rattle.make_protos.proofs.are_nestable.Statement.{statement}
 use Rattle.make_protos.proofs.are_nestable.Tie as tie
 
 abbrev Inv-loop : tie.InvT-loop
-Inv-loop w l s n k₀ k = turns (eachTurn (canNest l w s)) true (n - k) k ≡ each (canNest l w s) (length s)
+Inv-loop w l s n k₀ k = turns (eachTurn (canNest (layOf l) w s)) true (n - k) k ≡ each (canNest (layOf l) w s) (length s)
 
 abbrev μ-loop : tie.MeasureT-loop
 μ-loop w l s n k₀ k = n - k

@@ -2,6 +2,7 @@
 use mathlib.Core.Path.{_∙_, refl}
 use Prim.Native.Nat.{_-_}
 use native.Mathlib.Omega.{arith}
+use Rattle.layout.specs.Layout.{layOf}
 use Rattle.base.specs.Loop.{run-again, run-end}
 use Rattle.making.proofs.Writing.{Writing}
 use Rattle.make_protos.specs.Making.{nestOne, putNested}
@@ -9,7 +10,7 @@ use Rattle.make_protos.proofs.put_nested.Statement.{statement}
 use Rattle.make_protos.proofs.put_nested.Tie as tie
 
 abbrev Inv-loop : tie.InvT-loop
-Inv-loop w₀ l n s m k₀ w k = Writing (nestOne l n s) m w₀ w k
+Inv-loop w₀ l n s m k₀ w k = Writing (nestOne (layOf l) n s) m w₀ w k
 
 abbrev μ-loop : tie.MeasureT-loop
 μ-loop w₀ l n s m k₀ w k = m - k

@@ -3,7 +3,7 @@ use borrow.Author.Tests.{not-true}
 use borrow.Author.Needs.{needs}
 use Rattle.base.specs.Ways.{ifEq}
 use Rattle.value.specs.Values.{valueOf}
-use Rattle.laid.specs.Laid.{tables-room}
+use Rattle.laid.specs.Laid.{tables-room, sizes-laid}
 use Rattle.mark.specs.Marking.{markTable, markValue, markValueAt}
 use Rattle.mark.proofs.Laws.{plain-low}
 use Rattle.mark.proofs.mark_place.Statement.{statement}
@@ -19,6 +19,9 @@ returns : tie.Need-returns
 unfolding markValueAt
 returns c = plain-low _ _ _ _ _ _ (rw (c .before .get .ensures) at (c .if1 .taken))
 
+tables-of-requires : tie.Need-tables-of-requires
+tables-of-requires c κs = sizes-laid _ (c .before .before .before .before .before .before .pre .0)
+
 add-get : tie.Need-add-get
 add-get c = search needs
 
@@ -32,7 +35,7 @@ get-requires-3 : tie.Need-get-requires-3
 get-requires-3 c κs = search needs
 
 shade-requires : tie.Need-shade-requires
-shade-requires c κs = tables-room _ _ (c .before .before .before .before .before .before .before .before .pre .0) (c .before .before .before .before .before .before .before .before .pre .1 .0)
+shade-requires c κs = rw (c .before .before .tables-of .ensures) (tables-room _ _ (c .before .before .before .before .before .before .before .before .before .pre .0) (c .before .before .before .before .before .before .before .before .before .pre .1 .0))
 
 is-white-requires : tie.Need-is-white-requires
 is-white-requires c κs = search needs
@@ -42,7 +45,7 @@ same-length-2 c = search needs
 
 returns-2 : tie.Need-returns-2
 unfolding markValueAt markValue valueOf ifEq markTable
-returns-2 c = rw (← c .before .before .before .before .before .before .before .before .get .ensures, c .before .before .before .before .before .before .if2 .taken, ← c .before .before .before .before .get2 .ensures, ← c .before .before .before .get3 .ensures, ← c .before .before .shade .ensures, ← c .before .is-white .ensures, not-true (c .before .is-white .result) (c .if3 .taken))
+returns-2 c = rw (← c .before .before .before .before .before .before .before .before .before .get .ensures, c .before .before .before .before .before .before .before .if2 .taken, ← c .before .before .before .before .get2 .ensures, ← c .before .before .before .get3 .ensures, ← (rw (c .before .before .before .before .before .tables-of .ensures) at (c .before .before .shade .ensures)), ← c .before .is-white .ensures, not-true (c .before .is-white .result) (c .if3 .taken))
 
 mark-value-at-requires : tie.Need-mark-value-at-requires
 mark-value-at-requires c κs = search needs
@@ -60,6 +63,7 @@ mark-place-spec =
     get-requires
     same-length
     returns
+    tables-of-requires
     add-get
     get-requires-2
     add-get-2

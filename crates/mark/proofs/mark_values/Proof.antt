@@ -2,6 +2,7 @@
 use Prim.Native.Nat.{_-_}
 use mathlib.Core.Path.{refl, _∙_}
 use native.Mathlib.Omega.{arith}
+use Rattle.layout.specs.Layout.{layOf}
 use Rattle.base.specs.Loop.{run-again, run-end}
 use Rattle.mark.specs.Words.{ops}
 use Rattle.mark.specs.Marking.{markNth, markValues}
@@ -10,7 +11,7 @@ use Rattle.mark.proofs.mark_values.Statement.{statement}
 use Rattle.mark.proofs.mark_values.Tie as tie
 
 abbrev Inv-loop : tie.InvT-loop
-Inv-loop w₀ l p n i₀ w i = Going (markNth (ops l) l p) n w₀ w i
+Inv-loop w₀ l p n i₀ w i = Going (markNth (ops (layOf l)) (layOf l) p) n w₀ w i
 
 abbrev μ-loop : tie.MeasureT-loop
 μ-loop w₀ l p n i₀ w i = n - i

@@ -2,13 +2,14 @@
 use mathlib.Core.Path.{refl, sym, _∙_}
 use native.Mathlib.Omega.{arith}
 use borrow.Author.Needs.{needs}
+use Rattle.layout.specs.Layout.{layOf}
 use Rattle.pace.specs.Pace.{stepsMost, budgeted}
 use Rattle.pace.proofs.Laws.{Budgeting, turn-on, turn-over, turn-none}
 use Rattle.pace.proofs.budgeted.Statement.{statement}
 use Rattle.pace.proofs.budgeted.Tie as tie
 
 abbrev Inv-loop : tie.InvT-loop
-Inv-loop w₀ b₀ l kind budget left₀ rounds₀ w b left rounds = Budgeting l kind (stepsMost l) budget w₀ b₀ w b left rounds
+Inv-loop w₀ b₀ l kind budget left₀ rounds₀ w b left rounds = Budgeting (layOf l) kind (stepsMost (layOf l)) budget w₀ b₀ w b left rounds
 
 abbrev μ-loop : tie.MeasureT-loop
 μ-loop w₀ b₀ l kind budget left₀ rounds₀ w b left rounds = rounds

@@ -2,6 +2,7 @@
 use mathlib.Core.Path.{refl, sym, _∙_}
 use native.Mathlib.Omega.{arith}
 use borrow.Author.Needs.{needs}
+use Rattle.layout.specs.Layout.{layOf}
 use Rattle.run_walk.proofs.Laws.{parts-in}
 use Rattle.pace.specs.Pace.{stepsMost, driven}
 use Rattle.pace.proofs.Laws.{Driving, drive-through, drive-on, drive-out, drive-none}
@@ -9,7 +10,7 @@ use Rattle.pace.proofs.drive.Statement.{statement}
 use Rattle.pace.proofs.drive.Tie as tie
 
 abbrev Inv-loop : tie.InvT-loop
-Inv-loop w₀ b₀ l kind end rounds₀ w b rounds = Driving l kind (stepsMost l) end w₀ b₀ w b rounds
+Inv-loop w₀ b₀ l kind end rounds₀ w b rounds = Driving (layOf l) kind (stepsMost (layOf l)) end w₀ b₀ w b rounds
 
 abbrev μ-loop : tie.MeasureT-loop
 μ-loop w₀ b₀ l kind end rounds₀ w b rounds = rounds

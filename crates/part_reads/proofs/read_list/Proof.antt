@@ -1,3 +1,4 @@
+use Rattle.layout.specs.Fits.{sizes-of, sizes-in}
 -- `part_reads::read_list` meets its contract: from what its callees promise. Assumes nothing.
 use borrow.Author.Needs.{needs}
 use Rattle.part_reads.specs.PartReads.{list-room}
@@ -12,7 +13,7 @@ enum-known-l : tie.Need-enum-known-l
 enum-known-l c = search needs
 
 list-of-requires : tie.Need-list-of-requires
-list-of-requires c κs = search needs
+list-of-requires c κs = sizes-of _ (sizes-in _ _ _ (rw (c .before .l .given .1) at (c .before .before .before .enter .ensures .1)))
 
 list-in-requires : tie.Need-list-in-requires
 list-in-requires c κs = rw (c .list-of .ensures) (list-room _ (c .before .before .before .before .before .before .before .args .which) _ _ (rw (c .before .before .l .given .1) at (c .before .before .before .before .enter .ensures .1)))

@@ -2,6 +2,7 @@
 use Prim.Native.Nat.{_-_}
 use mathlib.Core.Path.{refl, _∙_}
 use native.Mathlib.Omega.{arith}
+use Rattle.layout.specs.Layout.{layOf}
 use Rattle.base.specs.Loop.{run-again, run-end}
 use Rattle.mark.specs.Words.{ops}
 use Rattle.mark.proofs.Laws.{Going}
@@ -10,7 +11,7 @@ use Rattle.propagate.proofs.mark_types.Statement.{statement}
 use Rattle.propagate.proofs.mark_types.Tie as tie
 
 abbrev Inv-loop : tie.InvT-loop
-Inv-loop w₀ l k₀ w k = Going (markType (ops l)) 9 w₀ w k
+Inv-loop w₀ l k₀ w k = Going (markType (ops (layOf l))) 9 w₀ w k
 
 abbrev μ-loop : tie.MeasureT-loop
 μ-loop w₀ l k₀ w k = 9 - k

@@ -2,13 +2,14 @@
 use mathlib.Core.Path.{refl, _∙_}
 use native.Mathlib.Omega.{arith}
 use borrow.Author.Needs.{needs}
+use Rattle.layout.specs.Layout.{layOf}
 use Rattle.propagate.specs.Propagation.{propagateAll}
 use Rattle.propagate.proofs.Laws.{Steps, all-stops, all-goes, all-over}
 use Rattle.propagate.proofs.propagate_all.Statement.{statement}
 use Rattle.propagate.proofs.propagate_all.Tie as tie
 
 abbrev Inv-loop : tie.InvT-loop
-Inv-loop w₀ b l left₀ w left = Steps l b left₀ w₀ w left
+Inv-loop w₀ b l left₀ w left = Steps (layOf l) b left₀ w₀ w left
 
 abbrev μ-loop : tie.MeasureT-loop
 μ-loop w₀ b l left₀ w left = left

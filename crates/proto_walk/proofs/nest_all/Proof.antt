@@ -1,6 +1,7 @@
 -- `proto_walk::nest_all` meets its contract: the measure is the prototypes that are left. Assumes nothing.
 use Prim.Native.Nat.{_-_, _≤_}
 use borrow.Author.Needs.{needs}
+use Rattle.layout.specs.Layout.{layOf}
 use Rattle.proto_walk.proofs.nest_all.Statement.{statement}
 use Rattle.proto_walk.proofs.nest_all.Tie as tie
 
@@ -20,7 +21,8 @@ returns : tie.Need-returns Inv-loop μ-loop
 returns c = search needs
 
 nest-requires : tie.Need-nest-requires Inv-loop μ-loop
-nest-requires c κs = search needs
+unfolding layOf
+nest-requires c κs = (c .before .before .before .before .before .before .before .pre .0, (c .before .before .before .before .before .before .before .pre .1, (c .before .before .before .before .loop .inv, c .before .before .before .loop-test .taken, c .before .if1 .left)))
 
 add-n : tie.Need-add-n Inv-loop μ-loop
 add-n c = search needs

@@ -1,22 +1,29 @@
 -- `proto_walk::put_constant` meets its contract: the words are as long as the layout says. Assumes nothing.
 use native.Mathlib.Omega.{arith}
 use borrow.Author.Needs.{needs}
-use Rattle.laid.specs.Laid.{strings-room}
+use Rattle.layout.specs.Layout.{layOf}
+use Rattle.laid.specs.Laid.{strings-room, sizes-laid}
 use Rattle.run_walk.proofs.Laws.{parts-in}
 use Rattle.proto_walk.proofs.put_constant.Statement.{statement}
 use Rattle.proto_walk.proofs.put_constant.Tie as tie
 
+strings-of-requires : tie.Need-strings-of-requires
+strings-of-requires c κs = sizes-laid _ (c .before .pre .0)
+
 take-slot-requires : tie.Need-take-slot-requires
-take-slot-requires c κs = strings-room _ _ (c .before .pre .0) (omega arith)
+unfolding layOf
+take-slot-requires c κs = rw (c .strings-of .ensures) (strings-room _ _ (c .before .before .pre .0) (omega arith))
 
 enum-told : tie.Need-enum-told
 enum-told c = search needs
 
 set-proto-counts-requires : tie.Need-set-proto-counts-requires
-set-proto-counts-requires c κs = (parts-in (c .before .before .before .before .before .before .before .pre .0) (omega arith), (omega arith, (omega arith, omega arith)))
+unfolding layOf
+set-proto-counts-requires c κs = (parts-in (c .before .before .before .before .before .before .before .before .pre .0) (omega arith), (omega arith, (omega arith, omega arith)))
 
 set-proto-constant-requires : tie.Need-set-proto-constant-requires
-set-proto-constant-requires c κs = (parts-in (c .before .before .before .before .before .before .before .before .before .pre .0) (omega arith), (omega arith, omega arith))
+unfolding layOf
+set-proto-constant-requires c κs = (parts-in (c .before .before .before .before .before .before .before .before .before .before .pre .0) (omega arith), (omega arith, omega arith))
 
 slice-aggregate-say : tie.Need-slice-aggregate-say
 slice-aggregate-say c = search needs
@@ -37,6 +44,7 @@ pub put-constant-spec : {M : Type 1} → statement M
 put-constant-spec =
     tie.close
     (tie.spec
+    strings-of-requires
     take-slot-requires
     enum-told
     set-proto-counts-requires

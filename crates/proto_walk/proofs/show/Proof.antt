@@ -1,7 +1,7 @@
 -- `proto_walk::show` meets its contract: what was planned fits the words that it says. Assumes nothing.
 use native.Mathlib.Omega.{arith}
 use borrow.Author.Needs.{needs}
-use Rattle.laid.specs.Laid.{Laid}
+use Rattle.laid.specs.Laid.{laid-of}
 use Rattle.proto_walk.proofs.show.Statement.{statement}
 use Rattle.proto_walk.proofs.show.Tie as tie
 
@@ -10,6 +10,9 @@ plan-requires c κs = search needs
 
 enum-known-l : tie.Need-enum-known-l
 enum-known-l c = search needs
+
+words-of-requires : tie.Need-words-of-requires
+words-of-requires c κs = rw (c .before .l .given .1) at (c .before .before .before .plan .ensures .1)
 
 slice-aggregate-say : tie.Need-slice-aggregate-say
 slice-aggregate-say c = search needs
@@ -21,8 +24,7 @@ returns : tie.Need-returns
 returns c = search needs
 
 walk-in-requires : tie.Need-walk-in-requires
-unfolding Laid
-walk-in-requires c κs = (rw (c .before .before .before .before .before .l .given .1) at (c .before .before .before .before .before .before .before .plan .ensures .1), omega arith)
+walk-in-requires c κs = (laid-of _ (rw (c .before .before .before .before .before .l .given .1) at (c .before .before .before .before .before .before .before .plan .ensures .1)), omega (arith, c .before .before .before .words-of .ensures, c .before .before .if1 .left))
 
 enum-known-n : tie.Need-enum-known-n
 enum-known-n c = search needs
@@ -48,6 +50,7 @@ show-spec =
     (tie.spec
     plan-requires
     enum-known-l
+    words-of-requires
     slice-aggregate-say
     say-requires
     returns

@@ -7,6 +7,7 @@ use lib.ListN.{length, length-set}
 use borrow.Author.Tests.{not-true, not-false}
 use borrow.Fn.Kinds.{In}
 use borrow.Fn.PlainCycle.{Measures, is, falls, and}
+use Rattle.layout.specs.Layout.{layOf}
 use Rattle.main_record.proofs.prototypes.proto_child.Reads as proto-child-reads
 use Rattle.main_record.proofs.prototypes.proto_nested.Reads as proto-nested-reads
 use Rattle.laid.specs.Laid.{parts-room}
@@ -31,7 +32,7 @@ sound-proto-below t =
     and 2 sound-proto-kinds.ps (falls 2 sound-proto-kinds.ps _<_ μ-sound-proto t) sound-proto.Pre
 
 abbrev sound-proto-Inv-loop : sound-proto-lts.InvT-loop
-sound-proto-Inv-loop w l seen₀ n m j₀ seen j = Looking l w n m seen₀ seen j
+sound-proto-Inv-loop w l seen₀ n m j₀ seen j = Looking (layOf l) w n m seen₀ seen j
 
 abbrev sound-proto-μ-loop : sound-proto-lts.MeasureT-loop
 sound-proto-μ-loop w l seen₀ n m j₀ seen j = m - j

@@ -4,13 +4,14 @@ use mathlib.Core.Path.{_∙_, _≡_, refl, sym}
 use Prim.Native.Nat.{_-_}
 use native.Mathlib.Omega.{arith}
 use borrow.Author.Tests.{not-false, not-true}
+use Rattle.layout.specs.Layout.{layOf}
 use Rattle.making.specs.Turns.{each, each-again, each-stop, eachTurn, turns, turns-end, turns-start}
 use Rattle.sound.specs.Sound.{areSound, soundAt}
 use Rattle.sound.proofs.are_sound.Statement.{statement}
 use Rattle.sound.proofs.are_sound.Tie as tie
 
 abbrev Inv-loop : tie.InvT-loop
-Inv-loop w l s p n k₀ k = turns (eachTurn (soundAt l s p w)) true (n - k) k ≡ each (soundAt l s p w) n
+Inv-loop w l s p n k₀ k = turns (eachTurn (soundAt (layOf l) s p w)) true (n - k) k ≡ each (soundAt (layOf l) s p w) n
 
 abbrev μ-loop : tie.MeasureT-loop
 μ-loop w l s p n k₀ k = n - k

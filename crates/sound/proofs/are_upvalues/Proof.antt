@@ -4,13 +4,14 @@ use mathlib.Core.Path.{_∙_, _≡_, refl, sym}
 use Prim.Native.Nat.{_-_}
 use native.Mathlib.Omega.{arith}
 use borrow.Author.Tests.{not-false, not-true}
+use Rattle.layout.specs.Layout.{layOf}
 use Rattle.making.specs.Turns.{each, each-again, each-stop, eachTurn, turns, turns-end, turns-start}
 use Rattle.sound.specs.Sound.{areUpvalues, upvalueAt}
 use Rattle.sound.proofs.are_upvalues.Statement.{statement}
 use Rattle.sound.proofs.are_upvalues.Tie as tie
 
 abbrev Inv-loop : tie.InvT-loop
-Inv-loop w l s n k₀ k = turns (eachTurn (upvalueAt l s w)) true (n - k) k ≡ each (upvalueAt l s w) n
+Inv-loop w l s n k₀ k = turns (eachTurn (upvalueAt (layOf l) s w)) true (n - k) k ≡ each (upvalueAt (layOf l) s w) n
 
 abbrev μ-loop : tie.MeasureT-loop
 μ-loop w l s n k₀ k = n - k

@@ -11,7 +11,9 @@ use Rattle.pacing.specs.Pacing.{budgetOf}
 use Rattle.entered.specs.Entered.{entered}
 use Rattle.test1.specs.Calls.{callMarked, marked-refused}
 use Rattle.base.specs.Heap.{Heap, heap}
+use Rattle.layout.specs.declared.Sizes.{Sizes}
 use Rattle.layout.specs.declared.Lay.{Lay}
+use Rattle.layout.specs.Layout.{layOf}
 use Rattle.layout.specs.declared.Opened.{Opened}
 use Rattle.layout.specs.declared.Opened.the-variants.{Fits}
 use Rattle.test1.specs.Test1.{opened}
@@ -26,9 +28,9 @@ same-budget : (n m : ℕ) (l : Lay) (h : Heap) {x : Answer × Heap} → n ≡ m 
 same-budget n m l h p e = e ∙ ap (λ (k : ℕ). budgetIn k l h) p
 
 -- a call whose work is done and whose mark is looked at
-told : (f : Lay → Heap → Answer × Heap) (w b : List ℕ) (l : Lay) (a : Answer) (v c : List ℕ) {o : Opened} {r : Answer} → o ≡ opened w (length b) → o ≡ Fits l → (a, heap v c) ≡ f l (heap w b) → r ≡ unmarked v a → (r, heap v c) ≡ callMarked Refused f (heap w b)
+told : (f : Lay → Heap → Answer × Heap) (w b : List ℕ) (s : Sizes) (a : Answer) (v c : List ℕ) {o : Opened} {r : Answer} → o ≡ opened w (length b) → o ≡ Fits s → (a, heap v c) ≡ f (layOf s) (heap w b) → r ≡ unmarked v a → (r, heap v c) ≡ callMarked Refused f (heap w b)
 unfolding callMarked
-told f w b l a v c p q e u = rw (← p, q, ← e, ← u)
+told f w b s a v c p q e u = rw (← p, q, ← e, ← u)
 
 enter-requires : tie.Need-enter-requires
 enter-requires c κs = search needs

@@ -2,6 +2,7 @@
 use mathlib.Core.Path.{refl, _∙_}
 use Prim.Native.Nat.{_-_}
 use native.Mathlib.Omega.{arith}
+use Rattle.layout.specs.Layout.{layOf}
 use Rattle.base.specs.Loop.{run-again, run-end}
 use Rattle.mark.specs.Words.{ops}
 use Rattle.mark.proofs.Laws.{Going}
@@ -10,7 +11,7 @@ use Rattle.table_walk.proofs.mark_nodes.Statement.{statement}
 use Rattle.table_walk.proofs.mark_nodes.Tie as tie
 
 abbrev Inv-loop : tie.InvT-loop
-Inv-loop w₀ l m q n j₀ w j = Going (markNthNode (ops l) l m q) n w₀ w j
+Inv-loop w₀ l m q n j₀ w j = Going (markNthNode (ops (layOf l)) (layOf l) m q) n w₀ w j
 
 abbrev μ-loop : tie.MeasureT-loop
 μ-loop w₀ l m q n j₀ w j = n - j

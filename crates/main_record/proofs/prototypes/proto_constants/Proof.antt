@@ -2,6 +2,7 @@
 use borrow.Author.Needs.{needs}
 use mathlib.Core.Path.{refl}
 use native.Mathlib.Omega.{arith}
+use Rattle.layout.specs.Fits.{sizes-of}
 use Rattle.base.specs.Ways.{lt-yes, lt-no}
 use Rattle.main_record.specs.Prototypes.{protoConstants}
 use Rattle.main_record.proofs.prototypes.proto_constants.Statement.{statement}
@@ -9,6 +10,9 @@ use Rattle.main_record.proofs.prototypes.proto_constants.Tie as tie
 
 protos-used-requires : tie.Need-protos-used-requires
 protos-used-requires c κs = search needs
+
+protos-at-requires : tie.Need-protos-at-requires
+protos-at-requires c κs = sizes-of _ (c .before .before .before .pre .sizes)
 
 mul-count-at : tie.Need-mul-count-at
 mul-count-at c = search needs
@@ -21,7 +25,7 @@ count-at-requires c κs = search needs
 
 returns : tie.Need-returns
 unfolding protoConstants
-returns c = (lt-yes _ _ _ _ _ (omega arith) (c .count-at .ensures .0), omega arith, omega arith)
+returns c = (lt-yes _ _ _ _ _ (omega arith) (rw (c .before .protos-at .ensures) at (c .count-at .ensures .0)), omega arith, omega arith)
 
 returns-2 : tie.Need-returns-2
 unfolding protoConstants
@@ -30,4 +34,11 @@ returns-2 c = (lt-no _ _ _ _ _ (omega arith) refl, omega arith, omega arith)
 pub proto-constants-spec : {M : Type 1} → statement M
 proto-constants-spec =
     tie.close
-    (tie.spec protos-used-requires mul-count-at add-count-at count-at-requires returns returns-2)
+    (tie.spec
+    protos-used-requires
+    protos-at-requires
+    mul-count-at
+    add-count-at
+    count-at-requires
+    returns
+    returns-2)

@@ -2,6 +2,7 @@
 use borrow.Author.Needs.{needs}
 use mathlib.Core.Path.{refl}
 use native.Mathlib.Omega.{arith}
+use Rattle.layout.specs.Fits.{sizes-of}
 use Rattle.base.specs.Ways.{lt-yes, lt-no}
 use Rattle.main_record.specs.Prototypes.{protoNested}
 use Rattle.main_record.proofs.prototypes.proto_nested.Statement.{statement}
@@ -9,6 +10,9 @@ use Rattle.main_record.proofs.prototypes.proto_nested.Tie as tie
 
 protos-used-requires : tie.Need-protos-used-requires
 protos-used-requires c κs = search needs
+
+protos-at-requires : tie.Need-protos-at-requires
+protos-at-requires c κs = sizes-of _ (c .before .before .before .pre .sizes)
 
 mul-count-at : tie.Need-mul-count-at
 mul-count-at c = search needs
@@ -24,7 +28,7 @@ count-at-requires c κs = search needs
 
 returns : tie.Need-returns
 unfolding protoNested
-returns c = (lt-yes _ _ _ _ _ (omega arith) (c .count-at .ensures .0), omega arith, omega arith)
+returns c = (lt-yes _ _ _ _ _ (omega arith) (rw (c .before .protos-at .ensures) at (c .count-at .ensures .0)), omega arith, omega arith)
 
 returns-2 : tie.Need-returns-2
 unfolding protoNested
@@ -35,6 +39,7 @@ proto-nested-spec =
     tie.close
     (tie.spec
     protos-used-requires
+    protos-at-requires
     mul-count-at
     add-count-at
     add-count-at-2

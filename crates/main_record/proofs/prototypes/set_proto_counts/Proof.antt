@@ -1,7 +1,11 @@
 -- `main_record::prototypes::set_proto_counts` meets its contract: the callees' equations joined. Assumes nothing.
 use borrow.Author.Needs.{needs}
+use Rattle.layout.specs.Fits.{sizes-of}
 use Rattle.main_record.proofs.prototypes.set_proto_counts.Statement.{statement}
 use Rattle.main_record.proofs.prototypes.set_proto_counts.Tie as tie
+
+protos-at-requires : tie.Need-protos-at-requires
+protos-at-requires c κs = sizes-of _ (c .before .pre .0 .sizes)
 
 mul-p : tie.Need-mul-p
 mul-p c = search needs
@@ -28,6 +32,7 @@ pub set-proto-counts-spec : {M : Type 1} → statement M
 set-proto-counts-spec =
     tie.close
     (tie.spec
+    protos-at-requires
     mul-p
     add-p
     put-number-requires

@@ -2,6 +2,7 @@
 use native.Mathlib.Omega.{arith}
 use mathlib.Core.Path.{refl, _∙_}
 use Prim.Native.Nat.{_-_}
+use Rattle.layout.specs.Layout.{layOf}
 use Rattle.mark.specs.Words.{ops}
 use Rattle.mark.proofs.Laws.{Going}
 use Rattle.base.specs.Loop.{run-again, run-end}
@@ -10,7 +11,7 @@ use Rattle.run_walk.proofs.main_thread.mark_frames.Statement.{statement
 use Rattle.run_walk.proofs.main_thread.mark_frames.Tie as tie
 
 abbrev Inv-loop : tie.InvT-loop
-Inv-loop w₀ l n i₀ w i = Going (markFrame (ops l) l) n w₀ w i
+Inv-loop w₀ l n i₀ w i = Going (markFrame (ops (layOf l)) (layOf l)) n w₀ w i
 
 abbrev μ-loop : tie.MeasureT-loop
 μ-loop w₀ l n i₀ w i = n - i

@@ -6,6 +6,7 @@ use native.Mathlib.Omega.{arith}
 use lib.ListN.{length, length-set}
 use borrow.Fn.Kinds.{In}
 use borrow.Fn.PlainCycle.{Measures, is, falls, and}
+use Rattle.layout.specs.Layout.{layOf}
 use Rattle.base.specs.Loop.{run-again, run-end}
 use Rattle.mark.specs.Words.{ops}
 use Rattle.main_record.proofs.prototypes.proto_child.Reads as proto-child-reads
@@ -31,7 +32,7 @@ mark-proto-below t =
     and 2 mark-proto-kinds.ps (falls 2 mark-proto-kinds.ps _<_ μ-mark-proto t) mark-proto.Pre
 
 abbrev mark-proto-Inv-loop : mark-proto-lts.InvT-loop
-mark-proto-Inv-loop w₀ l seen₀ n m j₀ w seen j = Nested (nestedOne (ops l) l (below (ops l) l n) n) m w₀ seen₀ w seen j
+mark-proto-Inv-loop w₀ l seen₀ n m j₀ w seen j = Nested (nestedOne (ops (layOf l)) (layOf l) (below (ops (layOf l)) (layOf l) n) n) m w₀ seen₀ w seen j
 
 abbrev mark-proto-μ-loop : mark-proto-lts.MeasureT-loop
 mark-proto-μ-loop w₀ l seen₀ n m j₀ w seen j = m - j
