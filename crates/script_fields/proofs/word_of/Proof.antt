@@ -1,9 +1,9 @@
--- `script_line::word_of` meets its contract: by the cases of its tests. Assumes nothing.
+-- `script_fields::word_of` meets its contract: by the cases of its tests. Assumes nothing.
 use mathlib.Core.Path.{refl}
-use Rattle.script_line.specs.Fields.{wordOf}
+use Rattle.script_fields.specs.Fields.{wordOf}
 use borrow.Author.Needs.{needs}
-use Rattle.script_line.proofs.word_of.Statement.{statement}
-use Rattle.script_line.proofs.word_of.Tie as tie
+use Rattle.script_fields.proofs.word_of.Statement.{statement}
+use Rattle.script_fields.proofs.word_of.Tie as tie
 
 slice-aggregate-same-bytes : tie.Need-slice-aggregate-same-bytes
 slice-aggregate-same-bytes c = search needs

@@ -1,13 +1,13 @@
--- `script_line::field_end` meets its contract: what is left of the loop gives the whole. Assumes nothing.
+-- `script_fields::field_end` meets its contract: what is left of the loop gives the whole. Assumes nothing.
 use native.Mathlib.Omega.{arith}
 use mathlib.Core.Path.{_≡_, refl}
 use Prim.Native.Nat.{_-_, _≤_}
 use lib.ListN.{length}
-use Rattle.script_line.specs.Fields.{fieldEnd}
-use Rattle.script_line.specs.Laws.{space-again, space-found, space-end}
+use Rattle.script_fields.specs.Fields.{fieldEnd}
+use Rattle.script_fields.specs.Laws.{space-again, space-found, space-end}
 use borrow.Author.Needs.{needs}
-use Rattle.script_line.proofs.field_end.Statement.{statement}
-use Rattle.script_line.proofs.field_end.Tie as tie
+use Rattle.script_fields.proofs.field_end.Statement.{statement}
+use Rattle.script_fields.proofs.field_end.Tie as tie
 
 abbrev Inv-loop : tie.InvT-loop
 Inv-loop line at i₀ i = (fieldEnd line i ≡ fieldEnd line at) × (at ≤ i) × (at ≤ length line → i ≤ length line)

@@ -1,9 +1,9 @@
--- `script_line::other_word` meets its contract: by the cases of its tests. Assumes nothing.
+-- `script_fields::other_word` meets its contract: by the cases of its tests. Assumes nothing.
 use mathlib.Core.Path.{refl}
-use Rattle.script_line.specs.Fields.{otherWord}
+use Rattle.script_fields.specs.Fields.{otherWord}
 use borrow.Author.Needs.{needs}
-use Rattle.script_line.proofs.other_word.Statement.{statement}
-use Rattle.script_line.proofs.other_word.Tie as tie
+use Rattle.script_fields.proofs.other_word.Statement.{statement}
+use Rattle.script_fields.proofs.other_word.Tie as tie
 
 slice-aggregate-same-bytes : tie.Need-slice-aggregate-same-bytes
 slice-aggregate-same-bytes c = search needs

@@ -1,11 +1,11 @@
--- `script_line::number_at` meets its contract: by the cases of its tests. Assumes nothing.
+-- `script_fields::number_at` meets its contract: by the cases of its tests. Assumes nothing.
 use native.Mathlib.Omega.{arith}
 use mathlib.Core.Path.{refl}
 use Rattle.base.specs.Ways.{le-yes, le-no, eq-yes, eq-no}
-use Rattle.script_line.specs.Fields.{numberAt}
+use Rattle.script_fields.specs.Fields.{numberAt}
 use borrow.Author.Needs.{needs}
-use Rattle.script_line.proofs.number_at.Statement.{statement}
-use Rattle.script_line.proofs.number_at.Tie as tie
+use Rattle.script_fields.proofs.number_at.Statement.{statement}
+use Rattle.script_fields.proofs.number_at.Tie as tie
 
 returns : tie.Need-returns
 unfolding numberAt

@@ -1,11 +1,11 @@
--- `script_line::word_at` meets its contract: by the cases of its tests. Assumes nothing.
+-- `script_fields::word_at` meets its contract: by the cases of its tests. Assumes nothing.
 use native.Mathlib.Omega.{arith}
 use mathlib.Core.Path.{_∙_}
-use Rattle.script_line.specs.Fields.{wordAt}
-use Rattle.script_line.specs.Laws.{word-past}
+use Rattle.script_fields.specs.Fields.{wordAt}
+use Rattle.script_fields.specs.Laws.{word-past}
 use borrow.Author.Needs.{needs}
-use Rattle.script_line.proofs.word_at.Statement.{statement}
-use Rattle.script_line.proofs.word_at.Tie as tie
+use Rattle.script_fields.proofs.word_at.Statement.{statement}
+use Rattle.script_fields.proofs.word_at.Tie as tie
 
 returns : tie.Need-returns
 returns c = word-past _ _ (c .if1 .taken)

@@ -1,13 +1,13 @@
--- `script_line::number_on` meets its contract: what is left of the loop gives the whole. Assumes nothing.
+-- `script_fields::number_on` meets its contract: what is left of the loop gives the whole. Assumes nothing.
 use native.Mathlib.Omega.{arith}
 use mathlib.Core.Path.{_≡_, refl, sym, _∙_}
 use Prim.Native.Nat.{_-_, _≤_}
 use lib.ListN.{length}
-use Rattle.script_line.specs.Fields.{numberOn}
-use Rattle.script_line.specs.Laws.{number-part, number-low, number-high, number-past, number-again, number-end}
+use Rattle.script_fields.specs.Fields.{numberOn}
+use Rattle.script_fields.specs.Laws.{number-part, number-low, number-high, number-past, number-again, number-end}
 use borrow.Author.Needs.{needs}
-use Rattle.script_line.proofs.number_on.Statement.{statement}
-use Rattle.script_line.proofs.number_on.Tie as tie
+use Rattle.script_fields.proofs.number_on.Statement.{statement}
+use Rattle.script_fields.proofs.number_on.Tie as tie
 
 abbrev Inv-loop : tie.InvT-loop
 Inv-loop line at i₀ v₀ i v = (numberOn line v i ≡ numberOn line 0 at) × (v ≤ 4294967295)

@@ -6,10 +6,10 @@ use lib.ListN.{length, take, drop}
 use Rattle.base.specs.Ways.{ifLt, ifLe, ifEq}
 use Rattle.base.specs.Words.{at}
 use Rattle.record.specs.Strings.{sameBytes}
-use Rattle.script_line.specs.declared.Word.{Word}
-use Rattle.script_line.specs.declared.Word.the-variants.{Str, Tab, Ud, Push, Pop, Seti, Setn, Meta, Collect, Unknown}
-use Rattle.script_line.specs.declared.Field.{Field}
-use Rattle.script_line.specs.declared.Field.the-variants.{Last, Part, Bad}
+use Rattle.script_fields.specs.declared.Word.{Word}
+use Rattle.script_fields.specs.declared.Word.the-variants.{Str, Tab, Ud, Push, Pop, Seti, Setn, Meta, Collect, Unknown}
+use Rattle.script_fields.specs.declared.Field.{Field}
+use Rattle.script_fields.specs.declared.Field.the-variants.{Last, Part, Bad}
 
 -- The bytes of the words.
 abbrev pub STR : List ℕ

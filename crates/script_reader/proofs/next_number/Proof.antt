@@ -1,4 +1,4 @@
--- `script_line::next_number` meets its contract: a walk of its MIR, by hand. The struct is taken apart, and `number_at` is called on the slice and the number. All that the proof knows of `number_at` is that it meets its contract.
+-- `script_reader::next_number` meets its contract: a walk of its MIR, by hand. The struct is taken apart, and `number_at` is called on the slice and the number. All that the proof knows of `number_at` is that it meets its contract.
 -- The struct is Copy: what it owns is had twice, one copy is kept whole for the exit, and of the other what line owns goes to the callee, beside the lifetime's token, which comes back.
 -- Assumes nothing.
 use mathlib.Core.Path.{_≡_, refl}
@@ -43,21 +43,21 @@ use denote.Triple.Table.{entered, cited}
 use denote.Triple.Walked.{says, Stays, stay-none, walkOf, goes-none, Walks, ends-at, walked, walk-meets}
 use denote.Exit.{yes}
 use denote.Triple.Clauses.{ensured, lasts}
-use Rattle.script_line.specs.Fields.{numberAt}
-use Rattle.script_line.specs.declared.Reader.{Reader}
-use Rattle.script_line.specs.declared.Field.{Field}
-use Rattle.script_line.proofs.Reader as T
-use Rattle.script_line.proofs.Reader.Laws as T′
-use Rattle.script_line.proofs.Field as S
-use Rattle.script_line.proofs.Field.Laws as S′
-use Rattle.script_line.proofs.number_at as at
-use Rattle.script_line.proofs.number_at.Symbol as at-def
-use Rattle.script_line.proofs.number_at.Symbol.{name as #script-line·number-at}
-use Rattle.script_line.proofs.number_at.Met as at-thm
-use Rattle.script_line.proofs.next_number.Key.{name as #script-line·next-number}
-use Rattle.script_line.proofs.next_number as next-number
-use Rattle.script_line.proofs.next_number.Statement as stated
-use Rattle.script_line.proofs.next_number.Code as code
+use Rattle.script_fields.specs.Fields.{numberAt}
+use Rattle.script_reader.specs.declared.Reader.{Reader}
+use Rattle.script_fields.specs.declared.Field.{Field}
+use Rattle.script_reader.proofs.Reader as T
+use Rattle.script_reader.proofs.Reader.Laws as T′
+use Rattle.script_fields.proofs.Field as S
+use Rattle.script_fields.proofs.Field.Laws as S′
+use Rattle.script_fields.proofs.number_at as at
+use Rattle.script_fields.proofs.number_at.Symbol as at-def
+use Rattle.script_fields.proofs.number_at.Symbol.{name as #script-fields·number-at}
+use Rattle.script_fields.proofs.number_at.Met as at-thm
+use Rattle.script_reader.proofs.next_number.Key.{name as #script-reader·next-number}
+use Rattle.script_reader.proofs.next_number as next-number
+use Rattle.script_reader.proofs.next_number.Statement as stated
+use Rattle.script_reader.proofs.next_number.Code as code
 
 -- the struct's type, over the signature's lifetimes
 abbrev B : Lfts 1 → RattleType
@@ -128,7 +128,7 @@ module _ {M : Type 1} (𝓤 : URA M) (H : Heap 𝓤) (A : Atoms 𝓤) (W : Given
       suffices ! _ (ends-at 𝓤 H A next-number.ended stayed (next-number.clauses 𝓤 H A mem run) W (((κ, tt), (q, tt), tt, (d, tt), (mach ∷ [], tt)), tt) u r (tt, tt) (tt, tt)) $ says ! e $
       move ! (1 ∷ []) $ frame ! $ nothing ! $ move ! (2 ∷ 0 ∷ []) $ fjoin ! $ frame ! $ done !
 
-  module _ (C : Calls 𝓤 H) (Λ : Loops 𝓤 H) (fm : FmC 𝓤 H (W .laws) C) (known : Triple 𝓤 (C #script-line·number-at) (NumberAt 𝓤 H A mem run)) where
+  module _ (C : Calls 𝓤 H) (Λ : Loops 𝓤 H) (fm : FmC 𝓤 H (W .laws) C) (known : Triple 𝓤 (C #script-fields·number-at) (NumberAt 𝓤 H A mem run)) where
     walk : Holds (hasTy (T′.mir (named 0)) mach) × WT mach → ent 𝓤 (onEntry 𝓤 H A next-number.signature (κ, tt) (q, tt) (d, tt) (mach ∷ [], tt)) (WpFn 𝓤 H C Λ code.function (mach ∷ []) Post)
     walk wt =
         qed W (raw (onEntry 𝓤 H A next-number.signature (κ, tt) (q, tt) (d, tt) (mach ∷ [], tt)) ∷ []) ∵ enter ! C Λ code.function (mach ∷ []) _ $
@@ -146,13 +146,13 @@ module _ {M : Type 1} (𝓤 : URA M) (H : Heap 𝓤) (A : Atoms 𝓤) (W : Given
         move ! (9 ∷ 10 ∷ []) $ free1 ! $ move ! (7 ∷ 8 ∷ []) $ free1 ! $ move ! (5 ∷ 6 ∷ []) $ free1 ! $ move ! (3 ∷ 4 ∷ []) $ free1 ! $ free0 ! $ by ! (exits r u e)))))))))
 
 module _ {M : Type 1} (𝓤 : URA M) (H : Heap 𝓤) (A : Atoms 𝓤) (W : Given 𝓤 H A) (mem : Memory → SProp 𝓤) (run : Routine → Fun 𝓤) where
-  next-number-walks : (C : Calls 𝓤 H) (Λ : Loops 𝓤 H) → FmC 𝓤 H (W .laws) C → Triple 𝓤 (C #script-line·number-at) (NumberAt 𝓤 H A mem run)
+  next-number-walks : (C : Calls 𝓤 H) (Λ : Loops 𝓤 H) → FmC 𝓤 H (W .laws) C → Triple 𝓤 (C #script-fields·number-at) (NumberAt 𝓤 H A mem run)
       → Walks 𝓤 H A next-number.ended stayed (WpFn 𝓤 H C Λ code.function) (next-number.clauses 𝓤 H A mem run)
   next-number-walks C Λ fm known = walked 𝓤 H A next-number.ended stayed (next-number.clauses 𝓤 H A mem run) (WpFn 𝓤 H C Λ code.function) (λ κs. (LL.vals (T.the-type (namedLft 1 0 tt κs)) (T′.the-laws (namedLft 1 0 tt κs)), tt)) (λ κs. (LL.tells (T.the-type (namedLft 1 0 tt κs)) (T′.the-laws (namedLft 1 0 tt κs)), tt))
       (λ κs qs bounds a g are. via 𝓤 _ (fst∗ 𝓤 _ (emp 𝓤)) (walk 𝓤 H A W mem run (κs .0) (qs .0) (a .0) C Λ fm known (LL.lawful (T.the-type (namedLft 1 0 tt κs)) (T′.the-laws (namedLft 1 0 tt κs)) 𝓤 H A W .typed (a .0) _ (are .0) .0)))
 
 next-number-meets : {M : Type 1} (𝓤 : URA M) (H : Heap 𝓤) (A : Atoms 𝓤) (W : Given 𝓤 H A) (mem : Memory → SProp 𝓤) (run : Routine → Fun 𝓤) (𝓣 : Tables 𝓤 H)
-    → Triple 𝓤 (𝓣 .C #script-line·number-at) (NumberAt 𝓤 H A mem run)
+    → Triple 𝓤 (𝓣 .C #script-fields·number-at) (NumberAt 𝓤 H A mem run)
     → Meets 𝓤 H A next-number.signature (WpFn 𝓤 H (𝓣 .C) (𝓣 .Λ) code.function) (next-number.spec 𝓤 H A mem run)
 next-number-meets 𝓤 H A W mem run 𝓣 known-at = walk-meets 𝓤 H A next-number.ended stayed W (goes-none 𝓤 H A W 1 B yes (λ κs x f. refl), tt) (next-number.clauses 𝓤 H A mem run) (WpFn 𝓤 H (𝓣 .C) (𝓣 .Λ) code.function) (WpFn-mono 𝓤 H (W .laws) 𝓣 code.function)
     (next-number-walks 𝓤 H A W mem run (𝓣 .C) (𝓣 .Λ) (fmOf 𝓤 H (W .laws) 𝓣) known-at)
@@ -161,6 +161,6 @@ pub next-number-spec : {M : Type 1} → stated.statement M
 unfolding code.routine tablesOf
 next-number-spec 𝓤 H 𝓜 𝓖 𝓡 =
     entered 𝓤 H (tripleOf 𝓤 H (𝓖 .A) next-number.signature (next-number.spec 𝓤 H (𝓖 .A) (𝓜 .mem) (𝓡 .run)))
-    (tables 𝓤 H 𝓜 𝓡 code.env .C) (tables 𝓤 H 𝓜 𝓡 code.env .Λ) #script-line·next-number code.function (code.unfolded 𝓤 H 𝓜 𝓡)
+    (tables 𝓤 H 𝓜 𝓡 code.env .C) (tables 𝓤 H 𝓜 𝓡 code.env .Λ) #script-reader·next-number code.function (code.unfolded 𝓤 H 𝓜 𝓡)
     (next-number-meets 𝓤 H (𝓖 .A) (givenOf 𝓤 H 𝓜 𝓖) (𝓜 .mem) (𝓡 .run) (tablesOf 𝓤 H 𝓜 (tables 𝓤 H 𝓜 𝓡 code.env))
-    (cited 𝓤 H (NumberAt 𝓤 H (𝓖 .A) (𝓜 .mem) (𝓡 .run)) 𝓜 𝓡 code.env #script-line·number-at at-def.routine code.calls-script-line·number-at (at-thm.met 𝓤 H 𝓜 𝓖 𝓡)))
+    (cited 𝓤 H (NumberAt 𝓤 H (𝓖 .A) (𝓜 .mem) (𝓡 .run)) 𝓜 𝓡 code.env #script-fields·number-at at-def.routine code.calls-script-fields·number-at (at-thm.met 𝓤 H 𝓜 𝓖 𝓡)))
