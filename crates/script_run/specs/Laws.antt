@@ -22,7 +22,7 @@ use Rattle.script_line.specs.declared.Command.the-variants as command
 use Rattle.script_line.specs.Lines.{parse}
 use Rattle.script_print.specs.declared.Outcome.{Outcome}
 use Rattle.script_print.specs.Texts.{finalLine, finalLines, outcomeText}
-use Rattle.script_calls.specs.Commands.{Script, script}
+use Rattle.script_answers.specs.Answers.{Script, script}
 use Rattle.script_run.specs.Runs.{finals, collectCommand, plain, obey, runLine, printed, handing, collecting, obeying}
 
 -- one finalizer more

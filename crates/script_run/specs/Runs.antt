@@ -24,7 +24,9 @@ use Rattle.script_print.specs.declared.Counts.{Counts}
 use Rattle.script_print.specs.declared.Outcome.{Outcome}
 use Rattle.script_print.specs.declared.Outcome.the-variants as outcome
 use Rattle.script_print.specs.Texts.{finalLines, outcomeText}
-use Rattle.script_calls.specs.Commands.{Script, script, refused4, strCommand, tabCommand, udCommand, pushCommand, popCommand, setiCommand, setnCommand, metaCommand}
+use Rattle.script_answers.specs.Answers.{Script, script, refused4}
+use Rattle.script_makes.specs.Makes.{strCommand, tabCommand, udCommand}
+use Rattle.script_calls.specs.Commands.{pushCommand, popCommand, setiCommand, setnCommand, metaCommand}
 
 -- The occupied slots of an arena, as the public read gives them; 0 if it is refused.
 unfoldable pub numberOf : Read → ℕ

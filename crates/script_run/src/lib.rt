@@ -11,7 +11,7 @@ ghost use Prim.Native.Nat.{_≤_};
 ghost use lib.ListN.{length};
 ghost use Rattle.base.specs.Heap.{heap};
 ghost use Rattle.script_line.specs.Lines.{TextWithin};
-ghost use Rattle.script_calls.specs.Commands.{script};
+ghost use Rattle.script_answers.specs.Answers.{script};
 ghost use Rattle.script_run.specs.Runs.{countIn, countsIn, lost, ended, runLine, printed, handing, collecting, obeying};
 
 // The answer of a collection's last call, and the place past what is printed.
@@ -125,9 +125,9 @@ fn obey(
     ensures { λ r. ⌜ ((r .outcome, script (heap (now (w .exit)) (now (b .exit))) (now (made .exit))), (r .next, now (out .exit))) ≡ obeying (now (line .entry)) c (script (heap (now (w .entry)) (now (b .entry))) (now (made .entry))) (0, now (out .entry)) ⌝ }
 {
     match c {
-        Command::Str(i) => plain(script_calls::str_command(w, b, made, &line[i..])),
-        Command::Tab(a, n) => plain(script_calls::tab_command(w, b, made, a, n)),
-        Command::Ud => plain(script_calls::ud_command(w, b, made)),
+        Command::Str(i) => plain(script_makes::str_command(w, b, made, &line[i..])),
+        Command::Tab(a, n) => plain(script_makes::tab_command(w, b, made, a, n)),
+        Command::Ud => plain(script_makes::ud_command(w, b, made)),
         Command::Push(k) => plain(script_calls::push_command(w, b, made, k)),
         Command::Pop => plain(script_calls::pop_command(w, b, made)),
         Command::Seti(t, i, k) => plain(script_calls::seti_command(w, b, made, t, i, k)),

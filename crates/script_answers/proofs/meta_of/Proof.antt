@@ -1,4 +1,4 @@
--- `script_calls::meta_of` meets its contract: by cases of what is given. Assumes nothing.
+-- `script_answers::meta_of` meets its contract: by cases of what is given. Assumes nothing.
 use mathlib.Core.Path.{_≡_, refl}
 use mathlib.Core.List.{[], _∷_}
 use types.Run.{OneOf, miss}
@@ -6,11 +6,11 @@ use denote.Enum.Declared.{tagOf}
 use Rattle.value.specs.declared.Value.{Value}
 use Rattle.value.specs.declared.Value.the-variants.{Nil, Boolean, Light, Number, Str, Table, Function, Userdata, Thread}
 use Rattle.value.proofs.Value.{the-type}
-use Rattle.script_calls.specs.declared.MetaGiven.the-variants.{Not}
-use Rattle.script_calls.specs.Commands.{metaOfValue, metaOf}
+use Rattle.script_answers.specs.declared.MetaGiven.the-variants.{Not}
+use Rattle.script_answers.specs.Answers.{metaOfValue, metaOf}
 use borrow.Author.Needs.{needs}
-use Rattle.script_calls.proofs.meta_of.Statement.{statement}
-use Rattle.script_calls.proofs.meta_of.Tie as tie
+use Rattle.script_answers.proofs.meta_of.Statement.{statement}
+use Rattle.script_answers.proofs.meta_of.Tie as tie
 
 -- what is neither nil nor a table
 no-meta : (v : Value) → OneOf (1 ∷ 2 ∷ 3 ∷ 4 ∷ 6 ∷ 7 ∷ 8 ∷ []) (tagOf the-type v) → Not ≡ metaOfValue v

@@ -1,8 +1,8 @@
--- `script_calls::of_served` meets its contract: by cases of what is given. Assumes nothing.
+-- `script_answers::of_served` meets its contract: by cases of what is given. Assumes nothing.
 use mathlib.Core.Path.{refl}
 use borrow.Author.Needs.{needs}
-use Rattle.script_calls.proofs.of_served.Statement.{statement}
-use Rattle.script_calls.proofs.of_served.Tie as tie
+use Rattle.script_answers.proofs.of_served.Statement.{statement}
+use Rattle.script_answers.proofs.of_served.Tie as tie
 
 enum-told : tie.Need-enum-told
 enum-told c = search needs

@@ -1,4 +1,4 @@
--- `script_calls::table_of` meets its contract: by cases of what is given. Assumes nothing.
+-- `script_answers::table_of` meets its contract: by cases of what is given. Assumes nothing.
 use mathlib.Core.Path.{_≡_, refl}
 use mathlib.Core.List.{[], _∷_}
 use types.Run.{OneOf, miss}
@@ -6,11 +6,11 @@ use denote.Enum.Declared.{tagOf}
 use Rattle.value.specs.declared.Value.{Value}
 use Rattle.value.specs.declared.Value.the-variants.{Nil, Boolean, Light, Number, Str, Table, Function, Userdata, Thread}
 use Rattle.value.proofs.Value.{the-type}
-use Rattle.script_calls.specs.declared.TableGiven.the-variants.{Not}
-use Rattle.script_calls.specs.Commands.{tableOfValue, tableOf}
+use Rattle.script_answers.specs.declared.TableGiven.the-variants.{Not}
+use Rattle.script_answers.specs.Answers.{tableOfValue, tableOf}
 use borrow.Author.Needs.{needs}
-use Rattle.script_calls.proofs.table_of.Statement.{statement}
-use Rattle.script_calls.proofs.table_of.Tie as tie
+use Rattle.script_answers.proofs.table_of.Statement.{statement}
+use Rattle.script_answers.proofs.table_of.Tie as tie
 
 -- what is no table
 no-table : (v : Value) → OneOf (0 ∷ 1 ∷ 2 ∷ 3 ∷ 4 ∷ 6 ∷ 7 ∷ 8 ∷ []) (tagOf the-type v) → Not ≡ tableOfValue v

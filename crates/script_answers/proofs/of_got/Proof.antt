@@ -1,9 +1,9 @@
--- `script_calls::of_got` meets its contract: by cases of what is given. Assumes nothing.
+-- `script_answers::of_got` meets its contract: by cases of what is given. Assumes nothing.
 use mathlib.Core.Path.{refl}
-use Rattle.script_calls.specs.Commands.{ofGot}
+use Rattle.script_answers.specs.Answers.{ofGot}
 use borrow.Author.Needs.{needs}
-use Rattle.script_calls.proofs.of_got.Statement.{statement}
-use Rattle.script_calls.proofs.of_got.Tie as tie
+use Rattle.script_answers.proofs.of_got.Statement.{statement}
+use Rattle.script_answers.proofs.of_got.Tie as tie
 
 enum-told : tie.Need-enum-told
 enum-told c = search needs

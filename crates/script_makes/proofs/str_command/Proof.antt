@@ -1,10 +1,10 @@
--- `script_calls::str_command` meets its contract: its callees' equations joined. Assumes nothing.
+-- `script_makes::str_command` meets its contract: its callees' equations joined. Assumes nothing.
 use mathlib.Core.Path.{sym, _∙_}
 use Rattle.script_made.specs.Objects.{not-full}
-use Rattle.script_calls.specs.Laws.{full, makes}
+use Rattle.script_makes.specs.Laws.{full, makes}
 use borrow.Author.Needs.{needs}
-use Rattle.script_calls.proofs.str_command.Statement.{statement}
-use Rattle.script_calls.proofs.str_command.Tie as tie
+use Rattle.script_makes.proofs.str_command.Statement.{statement}
+use Rattle.script_makes.proofs.str_command.Tie as tie
 
 is-full-requires : tie.Need-is-full-requires
 is-full-requires c κs = search needs

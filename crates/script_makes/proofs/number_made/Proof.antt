@@ -1,4 +1,4 @@
--- `script_calls::number_made` meets its contract: by cases of what is given. Assumes nothing.
+-- `script_makes::number_made` meets its contract: by cases of what is given. Assumes nothing.
 use mathlib.Core.Path.{_≡_, refl, ap}
 use mathlib.Core.List.{List, [], _∷_}
 use Prim.Native.Nat.{ℕ}
@@ -8,10 +8,10 @@ use Rattle.making.specs.declared.Made.{Made}
 use Rattle.making.specs.declared.Made.the-variants.{Str, Table, Function, Upvalue, Userdata, Thread, Proto, Refused}
 use Rattle.making.proofs.Made.{the-type}
 use Rattle.script_print.specs.declared.Outcome.the-variants as outcome
-use Rattle.script_calls.specs.Commands.{numbered}
+use Rattle.script_makes.specs.Makes.{numbered}
 use borrow.Author.Needs.{needs}
-use Rattle.script_calls.proofs.number_made.Statement.{statement}
-use Rattle.script_calls.proofs.number_made.Tie as tie
+use Rattle.script_makes.proofs.number_made.Statement.{statement}
+use Rattle.script_makes.proofs.number_made.Tie as tie
 
 -- what no script makes
 other-made : (x : Made) (m : List ℕ) → OneOf (2 ∷ 3 ∷ 5 ∷ 6 ∷ []) (tagOf the-type x) → (outcome.Refused 4, m) ≡ numbered x m
