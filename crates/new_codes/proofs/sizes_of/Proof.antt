@@ -1,8 +1,8 @@
--- `engine::sizes_of` meets its contract: from what its callees promise. Assumes nothing.
+-- `new_codes::sizes_of` meets its contract: from what its callees promise. Assumes nothing.
 use borrow.Author.Needs.{needs}
-use Rattle.engine.specs.Engine.{sizesOf}
-use Rattle.engine.proofs.sizes_of.Statement.{statement}
-use Rattle.engine.proofs.sizes_of.Tie as tie
+use Rattle.new_codes.specs.NewCodes.{sizesOf}
+use Rattle.new_codes.proofs.sizes_of.Statement.{statement}
+use Rattle.new_codes.proofs.sizes_of.Tie as tie
 
 number-requires : tie.Need-number-requires
 number-requires c κs = search needs

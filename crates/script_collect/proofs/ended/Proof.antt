@@ -1,4 +1,4 @@
--- `script_run::ended` meets its contract: by cases of the answer. Assumes nothing.
+-- `script_collect::ended` meets its contract: by cases of the answer. Assumes nothing.
 use mathlib.Core.Path.{_≡_, refl, _∙_}
 use mathlib.Core.List.{[], _∷_}
 use types.Run.{OneOf, miss}
@@ -9,10 +9,10 @@ use Rattle.accounts.specs.declared.Answer.the-variants.{Stepped, Unfinished, En
 use Rattle.accounts.proofs.Answer.{the-type}
 use Rattle.script_print.specs.declared.Counts.{Counts}
 use Rattle.script_print.specs.declared.Outcome.the-variants as outcome
-use Rattle.script_run.specs.Runs.{countsIn, lost, ended}
+use Rattle.script_collect.specs.Collects.{countsIn, lost, ended}
 use borrow.Author.Needs.{needs}
-use Rattle.script_run.proofs.ended.Statement.{statement}
-use Rattle.script_run.proofs.ended.Tie as tie
+use Rattle.script_collect.proofs.ended.Statement.{statement}
+use Rattle.script_collect.proofs.ended.Tie as tie
 
 -- an answer that refuses nothing
 not-refused : (before : Counts) (h : Heap) (a : Answer) → OneOf (0 ∷ 1 ∷ 2 ∷ 3 ∷ 4 ∷ 5 ∷ 6 ∷ []) (tagOf the-type a) → outcome.Freed (lost before (countsIn h)) ≡ ended before h a

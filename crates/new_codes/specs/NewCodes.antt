@@ -1,4 +1,4 @@
--- What the exported functions answer: a code (0, or a refusal number), and words lent for the rest. Assumes nothing.
+-- What a new heap needs, and making it, in numbers: a code (0, or a refusal number), and words lent for the rest. Assumes nothing.
 use mathlib.Core.Path.{_≡_}
 use mathlib.Core.List.{List}
 use Prim.Native.Nat.{ℕ, _^_, _<_}

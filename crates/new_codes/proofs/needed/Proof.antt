@@ -1,11 +1,11 @@
--- `engine::sieddesan_needed` meets its contract: each way by its test. Assumes nothing.
+-- `new_codes::needed` meets its contract: each way by its test. Assumes nothing.
 use borrow.Author.Needs.{needs}
 use mathlib.Core.Path.{refl}
 use native.Mathlib.Omega.{arith}
 use Rattle.base.specs.Ways.{eq-yes, eq-no}
-use Rattle.engine.specs.Engine.{neededOn}
-use Rattle.engine.proofs.sieddesan_needed.Statement.{statement}
-use Rattle.engine.proofs.sieddesan_needed.Tie as tie
+use Rattle.new_codes.specs.NewCodes.{neededOn}
+use Rattle.new_codes.proofs.needed.Statement.{statement}
+use Rattle.new_codes.proofs.needed.Tie as tie
 
 returns : tie.Need-returns
 unfolding neededOn
@@ -24,6 +24,6 @@ returns-2 : tie.Need-returns-2
 unfolding neededOn
 returns-2 c = eq-yes _ _ _ _ _ (omega arith) (rw (← c .before .before .before .before .sizes-of .ensures) (c .before .before .needed-in .ensures))
 
-pub sieddesan-needed-spec : {M : Type 1} → statement M
-sieddesan-needed-spec =
+pub needed-spec : {M : Type 1} → statement M
+needed-spec =
     tie.close (tie.spec returns sizes-of-requires needed-in-requires same-length returns-2)

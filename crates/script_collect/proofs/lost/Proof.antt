@@ -1,9 +1,9 @@
--- `script_run::lost` meets its contract: its callees' equations joined. Assumes nothing.
+-- `script_collect::lost` meets its contract: its callees' equations joined. Assumes nothing.
 use mathlib.Core.Path.{refl}
-use Rattle.script_run.specs.Runs.{lost}
+use Rattle.script_collect.specs.Collects.{lost}
 use borrow.Author.Needs.{needs}
-use Rattle.script_run.proofs.lost.Statement.{statement}
-use Rattle.script_run.proofs.lost.Tie as tie
+use Rattle.script_collect.proofs.lost.Statement.{statement}
+use Rattle.script_collect.proofs.lost.Tie as tie
 
 sub-sat-requires : tie.Need-sub-sat-requires
 sub-sat-requires c κs = search needs

@@ -1,12 +1,12 @@
--- `engine::needed_in` meets its contract: each way by its test. Assumes nothing.
+-- `new_codes::needed_in` meets its contract: each way by its test. Assumes nothing.
 use borrow.Author.Needs.{needs}
 use mathlib.Core.Path.{refl, sym, _∙_}
 use native.Mathlib.Omega.{arith}
 use Rattle.base.specs.Ways.{lt-yes, lt-no}
-use Rattle.engine.specs.Engine.{neededIn, planned-small}
+use Rattle.new_codes.specs.NewCodes.{neededIn, planned-small}
 use Rattle.layout.specs.Layout.{neededOf}
-use Rattle.engine.proofs.needed_in.Statement.{statement}
-use Rattle.engine.proofs.needed_in.Tie as tie
+use Rattle.new_codes.proofs.needed_in.Statement.{statement}
+use Rattle.new_codes.proofs.needed_in.Tie as tie
 
 plan-requires : tie.Need-plan-requires
 plan-requires c κs = search needs

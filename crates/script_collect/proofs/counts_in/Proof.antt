@@ -1,9 +1,9 @@
--- `script_run::counts_in` meets its contract: its callees' equations joined. Assumes nothing.
+-- `script_collect::counts_in` meets its contract: its callees' equations joined. Assumes nothing.
 use mathlib.Core.Path.{refl}
-use Rattle.script_run.specs.Runs.{countsIn}
+use Rattle.script_collect.specs.Collects.{countsIn}
 use borrow.Author.Needs.{needs}
-use Rattle.script_run.proofs.counts_in.Statement.{statement}
-use Rattle.script_run.proofs.counts_in.Tie as tie
+use Rattle.script_collect.proofs.counts_in.Statement.{statement}
+use Rattle.script_collect.proofs.counts_in.Tie as tie
 
 count-in-requires : tie.Need-count-in-requires
 count-in-requires c κs = search needs

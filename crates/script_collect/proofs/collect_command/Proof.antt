@@ -1,9 +1,9 @@
--- `script_run::collect_command` meets its contract: its callees' equations joined. Assumes nothing.
+-- `script_collect::collect_command` meets its contract: its callees' equations joined. Assumes nothing.
 use mathlib.Core.Path.{refl}
-use Rattle.script_run.specs.Runs.{collecting}
+use Rattle.script_collect.specs.Collects.{collecting}
 use borrow.Author.Needs.{needs}
-use Rattle.script_run.proofs.collect_command.Statement.{statement}
-use Rattle.script_run.proofs.collect_command.Tie as tie
+use Rattle.script_collect.proofs.collect_command.Statement.{statement}
+use Rattle.script_collect.proofs.collect_command.Tie as tie
 
 counts-in-requires : tie.Need-counts-in-requires
 counts-in-requires c κs = search needs

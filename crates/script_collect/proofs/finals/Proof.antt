@@ -1,4 +1,4 @@
--- `script_run::finals` meets its contract: what is left of the loop gives the whole. Assumes nothing.
+-- `script_collect::finals` meets its contract: what is left of the loop gives the whole. Assumes nothing.
 use mathlib.Core.Path.{_≡_, refl, sym, _∙_}
 use mathlib.Core.List.{List, [], _∷_}
 use Prim.Native.Nat.{ℕ, zero, suc}
@@ -11,11 +11,11 @@ use Rattle.accounts.specs.declared.Answer.the-variants.{Stepped, Unfinished, En
 use Rattle.accounts.proofs.Answer.{the-type}
 use Rattle.script_bytes.specs.Bytes.{said}
 use Rattle.script_print.specs.Texts.{finalLines}
-use Rattle.script_run.specs.Runs.{finals, handing}
-use Rattle.script_run.specs.Laws.{handing-again, handing-end}
+use Rattle.script_collect.specs.Collects.{finals, handing}
+use Rattle.script_collect.specs.Laws.{handing-again, handing-end}
 use borrow.Author.Needs.{needs}
-use Rattle.script_run.proofs.finals.Statement.{statement}
-use Rattle.script_run.proofs.finals.Tie as tie
+use Rattle.script_collect.proofs.finals.Statement.{statement}
+use Rattle.script_collect.proofs.finals.Tie as tie
 
 -- an answer that hands nothing out
 stopped : (n : ℕ) (a : Answer) (h : Heap) (p : ℕ × List ℕ) → OneOf (0 ∷ 1 ∷ 2 ∷ 3 ∷ 5 ∷ 6 ∷ 7 ∷ []) (tagOf the-type a) → ((a, h), p) ≡ handing n a h p

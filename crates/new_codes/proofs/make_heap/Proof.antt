@@ -1,11 +1,11 @@
--- `engine::sieddesan_make_heap` meets its contract: each way by its test. Assumes nothing.
+-- `new_codes::make_heap` meets its contract: each way by its test. Assumes nothing.
 use borrow.Author.Needs.{needs}
 use mathlib.Core.Path.{refl}
 use native.Mathlib.Omega.{arith}
 use Rattle.base.specs.Ways.{eq-yes, eq-no}
-use Rattle.engine.specs.Engine.{makeHeapOn}
-use Rattle.engine.proofs.sieddesan_make_heap.Statement.{statement}
-use Rattle.engine.proofs.sieddesan_make_heap.Tie as tie
+use Rattle.new_codes.specs.NewCodes.{makeHeapOn}
+use Rattle.new_codes.proofs.make_heap.Statement.{statement}
+use Rattle.new_codes.proofs.make_heap.Tie as tie
 
 returns : tie.Need-returns
 unfolding makeHeapOn
@@ -30,8 +30,8 @@ returns-2 : tie.Need-returns-2
 unfolding makeHeapOn
 returns-2 c = eq-yes _ _ _ _ _ (omega arith) (rw (← c .before .before .before .before .before .before .sizes-of .ensures, ← c .before .before .before .before .before .make-heap .ensures, c .code .ensures))
 
-pub sieddesan-make-heap-spec : {M : Type 1} → statement M
-sieddesan-make-heap-spec =
+pub make-heap-spec : {M : Type 1} → statement M
+make-heap-spec =
     tie.close
     (tie.spec
     returns

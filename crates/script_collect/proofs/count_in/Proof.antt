@@ -1,4 +1,4 @@
--- `script_run::count_in` meets its contract: by cases of the answer. Assumes nothing.
+-- `script_collect::count_in` meets its contract: by cases of the answer. Assumes nothing.
 use mathlib.Core.Path.{_≡_, refl}
 use mathlib.Core.List.{[], _∷_}
 use types.Run.{OneOf, miss}
@@ -6,10 +6,10 @@ use denote.Enum.Declared.{tagOf}
 use Rattle.reads.specs.declared.Read.{Read}
 use Rattle.reads.specs.declared.Read.the-variants.{Number, Value, Table, Str, Upvalue, Item, Userdata, Refused}
 use Rattle.reads.proofs.Read.{the-type}
-use Rattle.script_run.specs.Runs.{numberOf, countIn}
+use Rattle.script_collect.specs.Collects.{numberOf, countIn}
 use borrow.Author.Needs.{needs}
-use Rattle.script_run.proofs.count_in.Statement.{statement}
-use Rattle.script_run.proofs.count_in.Tie as tie
+use Rattle.script_collect.proofs.count_in.Statement.{statement}
+use Rattle.script_collect.proofs.count_in.Tie as tie
 
 -- an answer that is no number
 no-number : (r : Read) → OneOf (1 ∷ 2 ∷ 3 ∷ 4 ∷ 5 ∷ 6 ∷ 7 ∷ []) (tagOf the-type r) → 0 ≡ numberOf r
