@@ -1,7 +1,7 @@
--- `arena_engine::tell_swept` meets its contract: the callees' equations joined. Assumes nothing.
+-- `arena_codes::tell_swept` meets its contract: the callees' equations joined. Assumes nothing.
 use borrow.Author.Needs.{needs}
-use Rattle.arena_engine.proofs.tell_swept.Statement.{statement}
-use Rattle.arena_engine.proofs.tell_swept.Tie as tie
+use Rattle.arena_codes.proofs.tell_swept.Statement.{statement}
+use Rattle.arena_codes.proofs.tell_swept.Tie as tie
 
 cast-tell : tie.Need-cast-tell
 cast-tell c = search needs

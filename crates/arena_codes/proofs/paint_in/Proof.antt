@@ -1,8 +1,8 @@
--- `arena_engine::paint_in` meets its contract: the callees' equations joined. Assumes nothing.
+-- `arena_codes::paint_in` meets its contract: the callees' equations joined. Assumes nothing.
 use borrow.Author.Needs.{needs}
-use Rattle.arena_engine.specs.Exports.{paintIn}
-use Rattle.arena_engine.proofs.paint_in.Statement.{statement}
-use Rattle.arena_engine.proofs.paint_in.Tie as tie
+use Rattle.arena_codes.specs.Codes.{paintIn}
+use Rattle.arena_codes.proofs.paint_in.Statement.{statement}
+use Rattle.arena_codes.proofs.paint_in.Tie as tie
 
 name-of-requires : tie.Need-name-of-requires
 name-of-requires c κs = search needs

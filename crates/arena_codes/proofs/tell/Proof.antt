@@ -1,7 +1,7 @@
--- `arena_engine::tell` meets its contract: the callees' equations joined. Assumes nothing.
+-- `arena_codes::tell` meets its contract: the callees' equations joined. Assumes nothing.
 use borrow.Author.Needs.{needs}
-use Rattle.arena_engine.proofs.tell.Statement.{statement}
-use Rattle.arena_engine.proofs.tell.Tie as tie
+use Rattle.arena_codes.proofs.tell.Statement.{statement}
+use Rattle.arena_codes.proofs.tell.Tie as tie
 
 put-requires : tie.Need-put-requires
 put-requires c κs = search needs

@@ -1,8 +1,8 @@
--- `arena_engine::sweep_in` meets its contract: the callees' equations joined. Assumes nothing.
+-- `arena_codes::sweep_in` meets its contract: the callees' equations joined. Assumes nothing.
 use borrow.Author.Needs.{needs}
-use Rattle.arena_engine.specs.Exports.{sweepIn}
-use Rattle.arena_engine.proofs.sweep_in.Statement.{statement}
-use Rattle.arena_engine.proofs.sweep_in.Tie as tie
+use Rattle.arena_codes.specs.Codes.{sweepIn}
+use Rattle.arena_codes.proofs.sweep_in.Statement.{statement}
+use Rattle.arena_codes.proofs.sweep_in.Tie as tie
 
 wide-requires : tie.Need-wide-requires
 wide-requires c κs = search needs

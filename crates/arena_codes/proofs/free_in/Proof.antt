@@ -1,8 +1,8 @@
--- `arena_engine::free_in` meets its contract: the callees' equations joined. Assumes nothing.
+-- `arena_codes::free_in` meets its contract: the callees' equations joined. Assumes nothing.
 use borrow.Author.Needs.{needs}
-use Rattle.arena_engine.specs.Exports.{freeIn}
-use Rattle.arena_engine.proofs.free_in.Statement.{statement}
-use Rattle.arena_engine.proofs.free_in.Tie as tie
+use Rattle.arena_codes.specs.Codes.{freeIn}
+use Rattle.arena_codes.proofs.free_in.Statement.{statement}
+use Rattle.arena_codes.proofs.free_in.Tie as tie
 
 free-requires : tie.Need-free-requires
 free-requires c κs = search needs

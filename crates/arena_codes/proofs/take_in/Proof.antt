@@ -1,9 +1,9 @@
--- `arena_engine::take_in` meets its contract: the callees' equations joined. Assumes nothing.
+-- `arena_codes::take_in` meets its contract: the callees' equations joined. Assumes nothing.
 use borrow.Author.Needs.{needs}
 use native.Mathlib.Omega.{arith}
-use Rattle.arena_engine.specs.Exports.{takeIn}
-use Rattle.arena_engine.proofs.take_in.Statement.{statement}
-use Rattle.arena_engine.proofs.take_in.Tie as tie
+use Rattle.arena_codes.specs.Codes.{takeIn}
+use Rattle.arena_codes.proofs.take_in.Statement.{statement}
+use Rattle.arena_codes.proofs.take_in.Tie as tie
 
 take-slot-requires : tie.Need-take-slot-requires
 take-slot-requires c κs = search needs
