@@ -1,4 +1,2 @@
 pub mod Numbers
-pub mod Header
-pub mod Objects
 pub mod Answers

@@ -1,5 +1,5 @@
-// The reads in numbers, for Rust or C: which question a number asks, in the order in which the question's enum has its
-// variants, and an answer as a code and four words. A number that asks nothing is refused with 4, after 1 and 8.
+// The reads in numbers, for Rust or C: an answer as a code and four words. A number that asks nothing is refused with 4, after 1
+// and 8.
 use layout::Opened;
 use lists::Item;
 use reads::Read;
@@ -7,10 +7,6 @@ use value::StrOr;
 use value::TableOr;
 use value::UdOr;
 use value::Value;
-
-pub mod header;
-pub mod objects;
-
 ghost use mathlib.Core.Path.{_≡_};
 ghost use Rattle.base.specs.Heap.{heap};
 ghost use Rattle.reads.specs.declared.Read.the-variants as read;
@@ -24,7 +20,7 @@ pub enum Answer {
 }
 
 // What a number that names no question is answered.
-fn no_question(w: &[u32], b: &[u8]) -> Read
+pub fn no_question(w: &[u32], b: &[u8]) -> Read
     ensures { λ r. ⌜ r ≡ noQuestion (heap (now (w .entry)) (now (b .entry))) ⌝ }
 {
     match test1::enter(w, b) {

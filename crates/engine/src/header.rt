@@ -1,18 +1,18 @@
 // Reads of the header and of the slots, for Rust or C. Each lends four words or more for the answer, whose first says which
 // kind it is (crates/codes, `wordsOf`), and answers 0, 1, 8 or 4; a refusal leaves the words as they were. A question is
-// given by its number (crates/codes, specs/Header.antt), with an index that only some questions look at.
-use codes::header::ask_arena;
-use codes::header::ask_counter;
-use codes::header::ask_list;
-use codes::header::ask_main;
-use codes::header::ask_root;
-use codes::header::ask_size;
+// given by its number (crates/asked, specs/Header.antt), with an index that only some questions look at.
+use asked::header::ask_arena;
+use asked::header::ask_counter;
+use asked::header::ask_list;
+use asked::header::ask_main;
+use asked::header::ask_root;
+use asked::header::ask_size;
 use codes::tell;
 ghost use mathlib.Core.Path.{_≡_};
 ghost use Rattle.base.specs.Heap.{heap};
 ghost use Rattle.codes.specs.Answers.{told};
 ghost use Rattle.reads.specs.Reads.{readOut};
-ghost use Rattle.codes.specs.Header.{askCounter, askSize, askRoot, askMain, askList, askArena};
+ghost use Rattle.asked.specs.Header.{askCounter, askSize, askRoot, askMain, askList, askArena};
 
 // A counter, setting or mark.
 #[no_mangle]

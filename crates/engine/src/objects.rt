@@ -1,18 +1,18 @@
-// Reads of the fields of objects, for Rust or C, as those of the header: a field is given by its number (crates/codes,
+// Reads of the fields of objects, for Rust or C, as those of the header: a field is given by its number (crates/asked,
 // specs/Objects.antt), with a place that only some fields look at, and the object by its handle. Each answers 0, 1, 8, 4 for
 // a number that names no field, 2 for a handle that names no occupied slot, or 4 for a place outside its range.
-use codes::objects::ask_closure;
-use codes::objects::ask_proto;
-use codes::objects::ask_string;
-use codes::objects::ask_table;
-use codes::objects::ask_thread;
-use codes::objects::ask_upvalue;
-use codes::objects::ask_userdata;
+use asked::objects::ask_closure;
+use asked::objects::ask_proto;
+use asked::objects::ask_string;
+use asked::objects::ask_table;
+use asked::objects::ask_thread;
+use asked::objects::ask_upvalue;
+use asked::objects::ask_userdata;
 use codes::tell;
 ghost use mathlib.Core.Path.{_≡_};
 ghost use Rattle.base.specs.Heap.{heap};
 ghost use Rattle.codes.specs.Answers.{told};
-ghost use Rattle.codes.specs.Objects.{askString, askTable, askClosure, askUpvalue, askUserdata, askThread, askProto};
+ghost use Rattle.asked.specs.Objects.{askString, askTable, askClosure, askUpvalue, askUserdata, askThread, askProto};
 
 // A field of a string: its length, or a byte.
 #[no_mangle]

@@ -1,7 +1,6 @@
 // The calls that make, for Rust or C to link: exported functions on numbers and slices only. Values in a list take three words each,
 // handles of upvalues two, numbers of prototypes one. The answer is a code, 0 or the number of a refusal, and two words lent for
 // the handle that was made, index and generation, or the number of a prototype and 0.
-use making::Made;
 ghost use mathlib.Core.Path.{_≡_};
 ghost use Prim.Native.Nat.{_≤_};
 ghost use lib.ListN.{length};
@@ -15,60 +14,7 @@ ghost use Rattle.make_protos.specs.Making.{makeProto};
 ghost use Rattle.make_closures.specs.Making.{makeLuaClosure, makeRustClosure};
 ghost use Rattle.told.specs.Numbers.{tableRef, tableOf, tagged, optional};
 ghost use Rattle.told.specs.Answers.{lent};
-ghost use Rattle.make_engine.specs.Exports.{areTags, listed, madeTold};
-
-// Whether each value of a list has a tag: none is above 8. A rest that is no whole value is not looked at.
-fn are_tags(s: &[u32]) -> bool
-    ensures { λ r. ⌜ r ≡ areTags (now (s .entry)) ⌝ }
-{
-    let n = s.len() / 3;
-    let mut k: usize = 0;
-    while k < n {
-        if 8 < base::get(s, 3 * k) {
-            return false;
-        }
-        k += 1;
-    }
-    true
-}
-
-// The code of a call that makes, with what it made in words 0 and 1.
-fn tell_made(out: &mut [u32], a: Made) -> u32
-    requires { ⌜ 2 ≤ length (now out) ⌝ }
-    ensures { λ r. ⌜ (r, now (out .exit)) ≡ madeTold a (now (out .entry)) ⌝ }
-{
-    match a {
-        Made::Str(r) => {
-            told::put_two(out, r.0, r.1);
-            0
-        }
-        Made::Table(r) => {
-            told::put_two(out, r.0, r.1);
-            0
-        }
-        Made::Function(r) => {
-            told::put_two(out, r.0, r.1);
-            0
-        }
-        Made::Upvalue(r) => {
-            told::put_two(out, r.0, r.1);
-            0
-        }
-        Made::Userdata(r) => {
-            told::put_two(out, r.0, r.1);
-            0
-        }
-        Made::Thread(r) => {
-            told::put_two(out, r.0, r.1);
-            0
-        }
-        Made::Proto(n) => {
-            told::put_two(out, n, 0);
-            0
-        }
-        Made::Refused(n) => n,
-    }
-}
+ghost use Rattle.make_codes.specs.Codes.{listed, madeTold};
 
 // A string of these bytes: its handle.
 #[no_mangle]
@@ -84,7 +30,7 @@ pub extern "C" fn sieddesan_make_string(
         return 1;
     }
     let a = make_strings::make_string(w, b, s);
-    tell_made(out, a)
+    make_codes::tell_made(out, a)
 }
 
 // A table: its handle.
@@ -102,7 +48,7 @@ pub extern "C" fn sieddesan_make_table(
         return 1;
     }
     let a = make_tables::make_table(w, b, array, nodes);
-    tell_made(out, a)
+    make_codes::tell_made(out, a)
 }
 
 // A prototype with these constants and nested ones: its number.
@@ -119,11 +65,11 @@ pub extern "C" fn sieddesan_make_proto(
     if out.len() < 2 {
         return 1;
     }
-    if !are_tags(constants) {
+    if !make_codes::are_tags(constants) {
         return told::no_number(w, b);
     }
     let a = make_protos::make_proto(w, b, constants, nested);
-    tell_made(out, a)
+    make_codes::tell_made(out, a)
 }
 
 // A Lua closure of a prototype, with its env and its upvalues: its handle.
@@ -143,7 +89,7 @@ pub extern "C" fn sieddesan_make_lua_closure(
         return 1;
     }
     let a = make_closures::make_lua_closure(w, b, proto, value::TableRef(env, envgen), upvalues);
-    tell_made(out, a)
+    make_codes::tell_made(out, a)
 }
 
 // A Rust closure with its env, if any, and its values: its handle.
@@ -165,11 +111,11 @@ pub extern "C" fn sieddesan_make_rust_closure(
     if 1 < some {
         return told::no_number(w, b);
     }
-    if !are_tags(values) {
+    if !make_codes::are_tags(values) {
         return told::no_number(w, b);
     }
     let a = make_closures::make_rust_closure(w, b, told::table_of(some, env, envgen), values);
-    tell_made(out, a)
+    make_codes::tell_made(out, a)
 }
 
 // An open upvalue: its handle.
@@ -181,7 +127,7 @@ pub extern "C" fn sieddesan_make_open_upvalue(w: &mut [u32], b: &[u8], out: &mut
         return 1;
     }
     let a = make_threads::make_open_upvalue(w, b);
-    tell_made(out, a)
+    make_codes::tell_made(out, a)
 }
 
 // An upvalue closed over a value: its handle.
@@ -203,7 +149,7 @@ pub extern "C" fn sieddesan_make_closed_upvalue(
         return told::no_number(w, b);
     }
     let a = make_threads::make_closed_upvalue(w, b, value::value_of(tag, low, high));
-    tell_made(out, a)
+    make_codes::tell_made(out, a)
 }
 
 // A userdata: its handle.
@@ -215,7 +161,7 @@ pub extern "C" fn sieddesan_make_userdata(w: &mut [u32], b: &[u8], out: &mut [u3
         return 1;
     }
     let a = make_tables::make_userdata(w, b);
-    tell_made(out, a)
+    make_codes::tell_made(out, a)
 }
 
 // A thread with its global table and a stack of so many places: its handle.
@@ -234,5 +180,5 @@ pub extern "C" fn sieddesan_make_thread(
         return 1;
     }
     let a = make_threads::make_thread(w, b, value::TableRef(global, globalgen), stack);
-    tell_made(out, a)
+    make_codes::tell_made(out, a)
 }

@@ -4,14 +4,14 @@ use mathlib.Core.List.{List}
 use Prim.Native.Nat.{ℕ, _+_, _≤_}
 use lib.ListN.{length}
 use Rattle.base.specs.Ways.{ifLt, ifLe, ifEq}
-use Rattle.script_line.specs.declared.Word.{Word}
-use Rattle.script_line.specs.declared.Word.the-variants as word
-use Rattle.script_line.specs.declared.Field.{Field}
-use Rattle.script_line.specs.declared.Field.the-variants as field
+use Rattle.script_fields.specs.declared.Word.{Word}
+use Rattle.script_fields.specs.declared.Word.the-variants as word
+use Rattle.script_fields.specs.declared.Field.{Field}
+use Rattle.script_fields.specs.declared.Field.the-variants as field
 use Rattle.script_line.specs.declared.Numbers.{Numbers}
 use Rattle.script_line.specs.declared.Command.{Command}
 use Rattle.script_line.specs.declared.Command.the-variants.{Str, Tab, Ud, Push, Pop, Seti, Setn, Meta, Collect, Bad}
-use Rattle.script_line.specs.Fields.{fieldEnd, wordAt, numberAt}
+use Rattle.script_fields.specs.Fields.{fieldEnd, wordAt, numberAt}
 
 abbrev pub counted : ℕ → ℕ → ℕ → ℕ → ℕ → Numbers
 counted n a b c d = record { count = n; a = a; b = b; c = c; d = d }

@@ -1,49 +1,23 @@
 -- Laws of a line that is run.
---     handing-again, handing-end     one more finalizer is handed out; none is left to be
 --     collect-obeys, plain-obeys     a command's equation as the whole line's
---     line-runs                      what a command printed, and then its outcome's text
+--     line-runs, printed-within      what a command printed, and then its outcome's text; within the lent bytes
 -- Assumes nothing.
-use mathlib.Core.Path.{_≡_, refl, sym, ap, _∙_}
-use mathlib.Core.Bool.{true}
+use mathlib.Core.Path.{_≡_, refl, ap}
 use mathlib.Core.List.{List, [], _∷_, _++_}
-use Prim.Native.Nat.{ℕ, zero, suc, _-_, _≤_, _<_}
+use Prim.Native.Nat.{ℕ, _≤_}
 use native.Mathlib.Omega.{arith}
 use lib.ListN.{length}
 use Rattle.base.specs.Heap.{Heap}
-use Rattle.value.specs.declared.UdRef.{UdRef}
-use Rattle.value.specs.declared.Value.{Value}
-use Rattle.accounts.specs.declared.Answer.{Answer}
-use Rattle.accounts.specs.declared.Answer.the-variants.{Handed}
-use Rattle.steps.specs.Steps.{finish}
 use Rattle.script_bytes.specs.Bytes.{said}
 use Rattle.script_bytes.specs.Laws.{said-append, said-within}
 use Rattle.script_line.specs.declared.Command.{Command}
 use Rattle.script_line.specs.declared.Command.the-variants as command
 use Rattle.script_line.specs.Lines.{parse}
 use Rattle.script_print.specs.declared.Outcome.{Outcome}
-use Rattle.script_print.specs.Texts.{finalLine, finalLines, outcomeText}
-use Rattle.script_calls.specs.Commands.{Script, script}
-use Rattle.script_run.specs.Runs.{finals, collectCommand, plain, obey, runLine, printed, handing, collecting, obeying}
-
--- one finalizer more
-handing-turn : (n : ℕ) (r : UdRef) (v : Value) (h : Heap) (p : ℕ × List ℕ)
-    → handing (suc n) (Handed r v) h p ≡ handing n (finish true h .0) (finish true h .1) (said (finalLine r) p)
-unfolding handing finals finalLines
-handing-turn n r v h p = rw said-append
-
-module _ (n : ℕ) (a : Answer) (h : Heap) (p : ℕ × List ℕ) {x : (Answer × Heap) × (ℕ × List ℕ)} (rest : handing n a h p ≡ x) where
-  pub handing-again : (r : UdRef) (v : Value) (a′ : Answer) (h′ : Heap) (p′ : ℕ × List ℕ)
-      → 0 < n → a ≡ Handed r v → p′ ≡ said (finalLine r) p → (a′, h′) ≡ finish true h → handing (n - 1) a′ h′ p′ ≡ x
-  handing-again r v a′ h′ p′ g e q f =
-      let m : n ≡ suc (n - 1) = omega arith in
-      let t : handing (suc (n - 1)) (Handed r v) h p ≡ x = ap (λ (k : ℕ). handing k (Handed r v) h p) (sym m) ∙ ((ap (λ (b : Answer). handing n b h p) (sym e)) ∙ rest) in
-      rw (q, ap (λ (y : Answer × Heap). y .0) f, ap (λ (y : Answer × Heap). y .1) f) (sym (handing-turn (n - 1) r v h p) ∙ t)
-
-  pub handing-end : n ≤ 0 → ((a, h), p) ≡ x
-  unfolding handing finals said finalLines
-  handing-end g =
-      let m : n ≡ 0 = omega arith in
-      rw m at rest
+use Rattle.script_print.specs.Texts.{finalLines, outcomeText}
+use Rattle.script_answers.specs.Answers.{Script, script}
+use Rattle.script_collect.specs.Collects.{handing, collecting}
+use Rattle.script_run.specs.Runs.{collectCommand, plain, obey, runLine, printed, obeying}
 
 pub collect-obeys : (line : List ℕ) (h : Heap) (m : List ℕ) (p : ℕ × List ℕ) {o : Outcome} {g : Heap} {q : ℕ × List ℕ}
     → ((o, g), q) ≡ collecting h p → ((o, script g m), q) ≡ obeying line command.Collect (script h m) p

@@ -4,7 +4,7 @@ use mathlib.Core.Path.{refl}
 use Rattle.told.specs.Answers.{lent-short, lent-told}
 use Rattle.told.specs.Numbers.{tagged-no, tagged-yes}
 use Rattle.making.specs.declared.Made.the-variants.{Refused}
-use Rattle.make_engine.specs.Exports.{madeTold}
+use Rattle.make_codes.specs.Codes.{madeTold}
 use Rattle.make_engine.proofs.sieddesan_make_closed_upvalue.Statement.{statement}
 use Rattle.make_engine.proofs.sieddesan_make_closed_upvalue.Tie as tie
 

@@ -4,7 +4,7 @@ use borrow.Author.Needs.{needs}
 use mathlib.Core.Path.{_∙_, refl, sym}
 use Rattle.told.specs.Answers.{lent-short, lent-told}
 use Rattle.making.specs.declared.Made.the-variants.{Refused}
-use Rattle.make_engine.specs.Exports.{madeTold, listed-no, listed-yes}
+use Rattle.make_codes.specs.Codes.{madeTold, listed-no, listed-yes}
 use Rattle.make_engine.proofs.sieddesan_make_proto.Statement.{statement}
 use Rattle.make_engine.proofs.sieddesan_make_proto.Tie as tie
 

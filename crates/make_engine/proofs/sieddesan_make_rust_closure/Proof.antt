@@ -5,7 +5,7 @@ use mathlib.Core.Path.{_∙_, refl, sym}
 use Rattle.told.specs.Answers.{lent-short, lent-told}
 use Rattle.told.specs.Numbers.{optional-no, optional-yes}
 use Rattle.making.specs.declared.Made.the-variants.{Refused}
-use Rattle.make_engine.specs.Exports.{madeTold, listed-no, listed-yes}
+use Rattle.make_codes.specs.Codes.{madeTold, listed-no, listed-yes}
 use Rattle.make_engine.proofs.sieddesan_make_rust_closure.Statement.{statement}
 use Rattle.make_engine.proofs.sieddesan_make_rust_closure.Tie as tie
 

@@ -7,7 +7,8 @@ use Rattle.value.specs.declared.TableOr.{TableOr}
 use Rattle.value.specs.declared.Value.{Value}
 use Rattle.value.specs.declared.Value.the-variants.{Nil, Boolean, Light, Number, Str, Table, Function, Userdata, Thread}
 use Rattle.value.proofs.Value.{the-type}
-use Rattle.script_calls.specs.Commands.{Script, refused4, setMeta}
+use Rattle.script_answers.specs.Answers.{Script, refused4}
+use Rattle.script_calls.specs.Commands.{setMeta}
 use Rattle.script_calls.specs.Laws.{serves}
 use borrow.Author.Needs.{needs}
 use Rattle.script_calls.proofs.set_meta.Statement.{statement}
