@@ -107,7 +107,8 @@ macro_rules! variants {
             /// ```
             /// use collector::*;
             #[doc = concat!("let held = ", $example, ";")]
-            #[doc = concat!("assert_eq!(Value::", stringify!($variant), "(held).", stringify!($as), "(), Some(held));")]
+            #[doc = concat!("let value = Value::", stringify!($variant), "(held);")]
+            #[doc = concat!("assert_eq!(value.", stringify!($as), "(), Some(held));")]
             #[doc = concat!("assert_eq!(Value::Nil.", stringify!($as), "(), None);")]
             /// ```
             #[must_use]
