@@ -102,3 +102,8 @@ pub use sizes::{Needed, Sizes};
 pub use slots::Colour;
 pub use steps::{Outcome, Step};
 pub use value::Value;
+
+/// The README's examples run as tests too.
+#[cfg(doctest)]
+#[doc = include_str!("../README.md")]
+struct Readme;
