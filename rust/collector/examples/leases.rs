@@ -4,7 +4,8 @@
 //! userdata, a lease; as long as it is in use, no scrub may run onto the stripe. A planner rebuilds
 //! block by block and gives the collector a turn after each. A scrub asks before it runs.
 //!
-//! `cargo run --offline --example leases`, or `rust/collector/run-example` from a fresh clone.
+//! `rust/collector/run-example` from a fresh clone, or `cargo run --offline -p collector --example
+//! leases` in rust/.
 
 use collector::{Heap, Item, List, Outcome, Refusal, Sizes, Step, TableRef, UserdataRef, Value};
 use std::error::Error;

@@ -5,6 +5,7 @@ use crate::{FunctionRef, Heap, Proto, Refusal, TableRef, UpvalueRef, Value, engi
 
 /// Reads of closures.
 impl<W: AsRef<[u32]>, B: AsRef<[u8]>> Heap<W, B> {
+    /// A question by its place in the header's list.
     fn closure(&self, f: FunctionRef, field: u32, at: u32) -> Result<Read, Refusal> {
         let (index, generation) = (f.index(), f.generation());
         self.ask(|w, b, out| engine::read_closure(w, b, index, generation, field, at, out))

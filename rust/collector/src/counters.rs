@@ -59,6 +59,7 @@ pub enum Interrupted {
 
 /// Reads of counters, settings and marks.
 impl<W: AsRef<[u32]>, B: AsRef<[u8]>> Heap<W, B> {
+    /// A question by its place in the header's list.
     fn counter(&self, counter: u32) -> Result<Read, Refusal> {
         self.ask(|w, b, out| engine::read_counter(w, b, counter, out))
     }
@@ -154,7 +155,7 @@ impl<W: AsRef<[u32]>, B: AsRef<[u8]>> Heap<W, B> {
     /// ```
     /// # use collector::{Heap, Phase, Sizes};
     /// # let mut heap = Heap::new(Sizes::default())?;
-    /// let _ = heap.single_step()?;
+    /// heap.single_step()?.run_finalizers(|_| ())?;
     /// assert_eq!(heap.phase()?, Phase::Propagate);
     /// # Ok::<(), collector::Refusal>(())
     /// ```
@@ -235,7 +236,7 @@ impl<W: AsRef<[u32]>, B: AsRef<[u8]>> Heap<W, B> {
     /// # use collector::{Heap, Sizes};
     /// # let mut heap = Heap::new(Sizes::default())?;
     /// heap.make_userdata()?;
-    /// let _ = heap.collect()?;
+    /// heap.collect()?.run_finalizers(|_| ())?;
     /// assert!(heap.peak()? > heap.total()?);
     /// # Ok::<(), collector::Refusal>(())
     /// ```
@@ -252,7 +253,7 @@ impl<W: AsRef<[u32]>, B: AsRef<[u8]>> Heap<W, B> {
     /// ```
     /// # use collector::{Heap, Sizes};
     /// # let mut heap = Heap::new(Sizes::default())?;
-    /// let _ = heap.collect()?;
+    /// heap.collect()?.run_finalizers(|_| ())?;
     /// assert_eq!(heap.estimate()?, heap.total()?);
     /// # Ok::<(), collector::Refusal>(())
     /// ```

@@ -28,7 +28,7 @@ use core::fmt;
 /// let text = heap.make_string(b"kept")?;
 /// heap.table_set(table, 0, text)?;
 /// heap.push(table)?;
-/// let _ = heap.collect()?;
+/// heap.collect()?.run_finalizers(|_| ())?;
 /// assert_eq!(heap.string_bytes(text)?, b"kept");
 /// # Ok::<(), Refusal>(())
 /// ```

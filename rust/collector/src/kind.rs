@@ -11,6 +11,7 @@ use core::fmt;
 /// assert_eq!(heap.occupied(Kind::Strings)?, 2, "the names __mode and __gc");
 /// # Ok::<(), collector::Refusal>(())
 /// ```
+// In the order of the engine's numbers.
 #[derive(Clone, Copy, Debug, PartialEq, Eq, Hash)]
 pub enum Kind {
     /// Strings.

@@ -12,6 +12,7 @@ use crate::{FunctionRef, Heap, Refusal, TableRef, ThreadRef, UserdataRef, engine
 /// assert_eq!(heap.list_len(List::Queue)?, 0, "no finalizer is due");
 /// # Ok::<(), collector::Refusal>(())
 /// ```
+// In the order of the engine's numbers.
 #[derive(Clone, Copy, Debug, PartialEq, Eq, Hash)]
 pub enum List {
     /// Objects that are marked and still to be traversed.
@@ -30,7 +31,7 @@ pub enum List {
 /// use collector::{Heap, Item, List, Sizes};
 ///
 /// let mut heap = Heap::new(Sizes::default())?;
-/// let _ = heap.single_step()?; // marks the roots
+/// heap.single_step()?.run_finalizers(|_| ())?; // marks the roots
 /// let gray = heap.list_len(List::Gray)?;
 /// let items: Result<Vec<Item>, _> = (0..gray).map(|i| heap.list_item(List::Gray, i)).collect();
 /// assert!(items?.contains(&Item::Main));
@@ -54,6 +55,7 @@ pub enum Item {
 
 /// Reads of the working lists.
 impl<W: AsRef<[u32]>, B: AsRef<[u8]>> Heap<W, B> {
+    /// A question by its place in the header's list.
     fn list(&self, list: List, field: u32, index: u32) -> Result<Read, Refusal> {
         self.ask(|w, b, out| engine::read_list(w, b, list as u32, field, index, out))
     }
@@ -68,7 +70,7 @@ impl<W: AsRef<[u32]>, B: AsRef<[u8]>> Heap<W, B> {
     ///
     /// let mut heap = Heap::new(Sizes::default())?;
     /// assert_eq!(heap.list_len(List::Gray)?, 0);
-    /// let _ = heap.single_step()?;
+    /// heap.single_step()?.run_finalizers(|_| ())?;
     /// assert!(heap.list_len(List::Gray)? > 0, "the roots are to be traversed");
     /// # Ok::<(), collector::Refusal>(())
     /// ```

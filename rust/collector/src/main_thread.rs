@@ -16,7 +16,7 @@ impl<W: AsMut<[u32]>, B: AsMut<[u8]>> Heap<W, B> {
     /// # let mut heap = Heap::new(Sizes::default())?;
     /// let lease = heap.make_userdata()?;
     /// heap.push(lease)?;
-    /// let _ = heap.collect()?;
+    /// heap.collect()?.run_finalizers(|_| ())?;
     /// assert!(heap.is_live(lease)?);
     /// # Ok::<(), collector::Refusal>(())
     /// ```
@@ -203,6 +203,7 @@ impl<W: AsMut<[u32]>, B: AsMut<[u8]>> Heap<W, B> {
 
 /// Reads of the main thread.
 impl<W: AsRef<[u32]>, B: AsRef<[u8]>> Heap<W, B> {
+    /// A question by its place in the header's list.
     fn main(&self, field: u32, index: u32) -> Result<Read, Refusal> {
         self.ask(|w, b, out| engine::read_main(w, b, field, index, out))
     }

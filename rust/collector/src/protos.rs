@@ -5,6 +5,7 @@ use crate::{Heap, Proto, Refusal, Value, engine};
 
 /// Reads of prototypes.
 impl<W: AsRef<[u32]>, B: AsRef<[u8]>> Heap<W, B> {
+    /// A question by its place in the header's list.
     fn proto(&self, p: Proto, field: u32, at: u32) -> Result<Read, Refusal> {
         self.ask(|w, b, out| engine::read_proto(w, b, p.number(), field, at, out))
     }

@@ -14,6 +14,7 @@ use crate::{Heap, Refusal, StringRef, TableRef, engine};
 /// assert_eq!(heap.type_metatable(Type::String)?, Some(metatable));
 /// # Ok::<(), collector::Refusal>(())
 /// ```
+// In the order of the engine's numbers.
 #[derive(Clone, Copy, Debug, PartialEq, Eq, Hash)]
 pub enum Type {
     /// Nil.
@@ -66,6 +67,7 @@ impl<W: AsMut<[u32]>, B: AsMut<[u8]>> Heap<W, B> {
 
 /// Reads of roots. On a heap that the calls have made the first four are never missing.
 impl<W: AsRef<[u32]>, B: AsRef<[u8]>> Heap<W, B> {
+    /// A question by its place in the header's list.
     fn root(&self, root: u32, index: u32) -> Result<Read, Refusal> {
         self.ask(|w, b, out| engine::read_root(w, b, root, index, out))
     }

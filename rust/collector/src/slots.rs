@@ -42,6 +42,7 @@ impl Colour {
 
 /// Reads of slots, and what a handle of any kind names.
 impl<W: AsRef<[u32]>, B: AsRef<[u8]>> Heap<W, B> {
+    /// A question by its place in the header's list.
     fn arena(&self, kind: Kind, field: u32, index: u32) -> Result<Read, Refusal> {
         self.ask(|w, b, out| engine::read_arena(w, b, kind as u32, field, index, out))
     }
@@ -78,7 +79,7 @@ impl<W: AsRef<[u32]>, B: AsRef<[u8]>> Heap<W, B> {
     /// # let mut heap = Heap::new(Sizes::default())?;
     /// let dropped = heap.make_table(0, 0)?;
     /// assert_ne!(heap.colour(dropped)?, Colour::Free);
-    /// let _ = heap.collect()?;
+    /// heap.collect()?.run_finalizers(|_| ())?;
     /// assert!(heap.colour(dropped).is_err());
     /// # Ok::<(), collector::Refusal>(())
     /// ```
@@ -108,7 +109,7 @@ impl<W: AsRef<[u32]>, B: AsRef<[u8]>> Heap<W, B> {
     /// # let mut heap = Heap::new(Sizes::default())?;
     /// let dropped = heap.make_userdata()?;
     /// assert_eq!(heap.free_head(Kind::Userdata)?, None);
-    /// let _ = heap.collect()?;
+    /// heap.collect()?.run_finalizers(|_| ())?;
     /// assert_eq!(heap.free_head(Kind::Userdata)?, Some(dropped.index()));
     /// # Ok::<(), collector::Refusal>(())
     /// ```
@@ -161,7 +162,7 @@ impl<W: AsRef<[u32]>, B: AsRef<[u8]>> Heap<W, B> {
     /// # use collector::{Heap, Kind, Sizes};
     /// # let mut heap = Heap::new(Sizes::default())?;
     /// heap.make_userdata()?;
-    /// let _ = heap.collect()?;
+    /// heap.collect()?.run_finalizers(|_| ())?;
     /// assert_eq!(heap.slot_generation(Kind::Userdata, 0)?, 1, "it was freed once");
     /// # Ok::<(), collector::Refusal>(())
     /// ```
@@ -197,7 +198,7 @@ impl<W: AsRef<[u32]>, B: AsRef<[u8]>> Heap<W, B> {
     /// # let mut heap = Heap::new(Sizes::default())?;
     /// heap.make_userdata()?;
     /// heap.make_userdata()?;
-    /// let _ = heap.collect()?;
+    /// heap.collect()?.run_finalizers(|_| ())?;
     /// assert_eq!(heap.free_head(Kind::Userdata)?, Some(1));
     /// assert_eq!(heap.slot_link(Kind::Userdata, 1)?, Some(0));
     /// assert_eq!(heap.slot_link(Kind::Userdata, 0)?, None);

@@ -6,6 +6,7 @@ use alloc::vec::Vec;
 
 /// Reads of strings.
 impl<W: AsRef<[u32]>, B: AsRef<[u8]>> Heap<W, B> {
+    /// A question by its place in the header's list.
     fn text(&self, s: StringRef, field: u32, at: u32) -> Result<Read, Refusal> {
         let (index, generation) = (s.index(), s.generation());
         self.ask(|w, b, out| engine::read_string(w, b, index, generation, field, at, out))

@@ -100,6 +100,7 @@ impl<W: AsMut<[u32]>, B: AsMut<[u8]>> Heap<W, B> {
 
 /// Reads of tables.
 impl<W: AsRef<[u32]>, B: AsRef<[u8]>> Heap<W, B> {
+    /// A question by its place in the header's list.
     fn table(&self, t: TableRef, field: u32, at: u32) -> Result<Read, Refusal> {
         let (index, generation) = (t.index(), t.generation());
         self.ask(|w, b, out| engine::read_table(w, b, index, generation, field, at, out))

@@ -267,6 +267,7 @@ impl<W: AsMut<[u32]>, B: AsMut<[u8]>> Heap<W, B> {
 
 /// Reads of threads.
 impl<W: AsRef<[u32]>, B: AsRef<[u8]>> Heap<W, B> {
+    /// A question by its place in the header's list.
     fn thread(&self, th: ThreadRef, field: u32, at: u32) -> Result<Read, Refusal> {
         let (index, generation) = (th.index(), th.generation());
         self.ask(|w, b, out| engine::read_thread(w, b, index, generation, field, at, out))

@@ -56,6 +56,7 @@ impl<W: AsMut<[u32]>, B: AsMut<[u8]>> Heap<W, B> {
 
 /// Reads of upvalues.
 impl<W: AsRef<[u32]>, B: AsRef<[u8]>> Heap<W, B> {
+    /// A question by its place in the header's list.
     fn upvalue(&self, u: UpvalueRef, field: u32) -> Result<Read, Refusal> {
         let (index, generation) = (u.index(), u.generation());
         self.ask(|w, b, out| engine::read_upvalue(w, b, index, generation, field, out))

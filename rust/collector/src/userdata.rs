@@ -64,6 +64,7 @@ impl<W: AsMut<[u32]>, B: AsMut<[u8]>> Heap<W, B> {
 
 /// Reads of userdata.
 impl<W: AsRef<[u32]>, B: AsRef<[u8]>> Heap<W, B> {
+    /// A question by its place in the header's list.
     fn userdata(&self, d: UserdataRef, field: u32) -> Result<Read, Refusal> {
         let (index, generation) = (d.index(), d.generation());
         self.ask(|w, b, out| engine::read_userdata(w, b, index, generation, field, out))
