@@ -253,6 +253,7 @@ impl<W: AsRef<[u32]>, B: AsRef<[u8]>> Heap<W, B> {
     /// ```
     /// # use collector::{Heap, Sizes};
     /// # let mut heap = Heap::new(Sizes::default())?;
+    /// heap.make_userdata()?; // nothing holds it
     /// heap.collect()?.run_finalizers(|_| ())?;
     /// assert_eq!(heap.estimate()?, heap.total()?);
     /// # Ok::<(), collector::Refusal>(())

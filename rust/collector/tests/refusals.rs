@@ -55,6 +55,9 @@ fn stale_handles_are_2() {
     refused(&mut heap, 2, |h| h.colour(lost));
     refused(&mut heap, 2, |h| h.push(UserdataRef::new(u32::MAX, 0)));
     assert_eq!(heap.is_live(lost), Ok(false));
+    let free = TableRef::new(lost.index(), 1);
+    refused(&mut heap, 2, |h| h.colour(free));
+    assert_eq!(heap.is_live(free), Ok(false), "its slot is free");
 
     let again = heap.make_table(1, 1).unwrap();
     assert_eq!((again.index(), again.generation()), (lost.index(), 1));
