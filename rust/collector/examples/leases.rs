@@ -147,7 +147,7 @@ impl<'o> Server<'o> {
         if let Value::Userdata(_) = self.heap.table_get(self.leases, stripe)? {
             return Ok(Asked::Leased);
         }
-        // The list loses a lease before its finalizer has run: those in the queue still wait for it.
+        // The list loses a lease before its finalizer has run; those in the queue wait for it.
         for i in 0..self.heap.list_len(List::Queue)? {
             if let Item::Userdata(lease) = self.heap.list_item(List::Queue, i)?
                 && stripe_of(&self.heap, lease)? == stripe

@@ -96,7 +96,7 @@ impl Refusal {
                 "an index, length, size or key is outside its range, or a stack or list is full"
             }
             Self::WrongState => {
-                "the call does not fit: an empty stack, an open or closed upvalue, or no finalizer out"
+                "the call does not fit: an empty stack, an upvalue's state, or no finalizer out"
             }
             Self::TotalTooLarge => "the tracked total would pass 2^31 - 1 bytes",
             Self::OverLimit => "the total is above the limit",
