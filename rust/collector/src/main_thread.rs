@@ -232,7 +232,10 @@ impl<W: AsRef<[u32]>, B: AsRef<[u8]>> Heap<W, B> {
     ///
     /// ```
     /// # use collector::{Heap, Sizes};
-    /// assert_eq!(Heap::new(Sizes::default())?.open_count()?, 0);
+    /// # let mut heap = Heap::new(Sizes::default())?;
+    /// let upvalue = heap.make_open_upvalue()?;
+    /// heap.open_push(upvalue)?;
+    /// assert_eq!(heap.open_count()?, 1);
     /// # Ok::<(), collector::Refusal>(())
     /// ```
     #[doc(alias = "sieddesan_read_main")]

@@ -2,8 +2,43 @@
 
 mod common;
 
-use collector::{Colour, Heap, Interrupted, Kind, Phase, Refusal, Sizes, Step};
+use collector::{
+    Colour, Heap, Interrupted, Kind, Phase, Refusal, Sizes, Step, StringRef, TableRef,
+};
 use common::{dropped, heap};
+
+#[test]
+fn a_new_heap_is_as_document_01_has_it() -> Result<(), Refusal> {
+    let heap = Heap::new(Sizes::default())?;
+    assert_eq!(
+        (heap.global()?, heap.registry()?),
+        (Some(TableRef::new(0, 0)), Some(TableRef::new(1, 0)))
+    );
+    assert_eq!(
+        (heap.mode_name()?, heap.gc_name()?),
+        (Some(StringRef::new(0, 0)), Some(StringRef::new(1, 0)))
+    );
+    assert_eq!(heap.string_bytes(StringRef::new(1, 0))?, b"__gc");
+    for table in [TableRef::new(0, 0), TableRef::new(1, 0)] {
+        assert_eq!(
+            (heap.table_array_len(table)?, heap.table_node_count(table)?),
+            (8, 8)
+        );
+    }
+    assert_eq!(
+        (heap.phase()?, heap.pause()?, heap.stepmul()?),
+        (Phase::Pause, 200, 200)
+    );
+    assert_eq!(
+        (heap.total()?, heap.peak()?, heap.threshold()?),
+        (224, 224, 65_536)
+    );
+    assert_eq!(
+        (heap.limit()?, heap.top()?, heap.current_frame()?),
+        (None, 0, 0)
+    );
+    Ok(())
+}
 
 /// Steps until the heap is at a phase.
 fn until(heap: &mut Heap, phase: Phase) -> Result<(), Refusal> {
