@@ -372,8 +372,9 @@ impl<W: AsRef<[u32]>, B: AsRef<[u8]>> Heap<W, B> {
     /// # use collector::{Heap, Sizes};
     /// # let mut heap = Heap::new(Sizes::default())?;
     /// # let global = heap.make_table(0, 0)?;
-    /// let thread = heap.make_thread(global, 4)?;
-    /// assert_eq!(heap.thread_open_count(thread)?, 0);
+    /// let (thread, upvalue) = (heap.make_thread(global, 4)?, heap.make_open_upvalue()?);
+    /// heap.thread_open_push(thread, upvalue)?;
+    /// assert_eq!(heap.thread_open_count(thread)?, 1);
     /// # Ok::<(), collector::Refusal>(())
     /// ```
     #[doc(alias = "sieddesan_read_thread")]
@@ -390,8 +391,9 @@ impl<W: AsRef<[u32]>, B: AsRef<[u8]>> Heap<W, B> {
     /// # use collector::{Heap, Sizes};
     /// # let mut heap = Heap::new(Sizes::default())?;
     /// # let global = heap.make_table(0, 0)?;
-    /// let thread = heap.make_thread(global, 4)?;
-    /// assert_eq!(heap.thread_suspended_count(thread)?, 0);
+    /// let (thread, upvalue) = (heap.make_thread(global, 4)?, heap.make_open_upvalue()?);
+    /// heap.thread_suspended_push(thread, upvalue)?;
+    /// assert_eq!(heap.thread_suspended_count(thread)?, 1);
     /// # Ok::<(), collector::Refusal>(())
     /// ```
     #[doc(alias = "sieddesan_read_thread")]
