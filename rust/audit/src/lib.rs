@@ -1,7 +1,7 @@
 //! The audit of the proved heap, beside the oracle's on the heaps that calls make, and beside a
 //! [`direct`] reading of the words where they are damaged.
-//!
-//! `rt staticlib audit_engine` at the repository's root writes the library that this crate links.
+
+#![forbid(unsafe_code)]
 
 mod damage;
 pub mod direct;

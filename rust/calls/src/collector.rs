@@ -1,6 +1,6 @@
 //! A heap of ours with every call by its name, on plain types.
 
-use crate::ours;
+use ::collector::engine;
 use heap::ask::{joined, value as read_value};
 use heap::words::value;
 use heap::{Refused, Words, needed};
@@ -94,18 +94,21 @@ impl Collector {
     }
 
     pub fn make_string(&mut self, bytes: &[u8]) -> Told<StrRef> {
-        let [index, generation] = told(|out| ours::make_string(&mut self.heap, bytes, out))?;
+        let (w, b) = self.heap.lent();
+        let [index, generation] = told(|out| engine::make_string(w, b, bytes, out))?;
         Ok(StrRef::new(index, generation))
     }
 
     pub fn make_table(&mut self, array: u32, nodes: u32) -> Told<TableRef> {
-        let [index, generation] = told(|out| ours::make_table(&mut self.heap, array, nodes, out))?;
+        let (w, b) = self.heap.lent();
+        let [index, generation] = told(|out| engine::make_table(w, b, array, nodes, out))?;
         Ok(TableRef::new(index, generation))
     }
 
     pub fn make_proto(&mut self, constants: &[Value], nested: &[u32]) -> Told<u32> {
         let constants = values(constants);
-        let [number, rest] = told(|out| ours::make_proto(&mut self.heap, &constants, nested, out))?;
+        let (w, b) = self.heap.lent();
+        let [number, rest] = told(|out| engine::make_proto(w, b, &constants, nested, out))?;
         assert_eq!(rest, 0, "a number and 0");
         Ok(number)
     }
@@ -118,49 +121,54 @@ impl Collector {
     ) -> Told<FuncRef> {
         let upvalues = upvalues.iter().flat_map(|u| [u.index, u.generation]);
         let upvalues: Vec<u32> = upvalues.collect();
-        let (heap, table) = (&mut self.heap, env.index);
-        let [index, generation] =
-            told(|out| ours::make_lua_closure(heap, proto, table, env.generation, &upvalues, out))?;
+        let (w, b) = self.heap.lent();
+        let [index, generation] = told(|out| {
+            engine::make_lua_closure(w, b, proto, env.index, env.generation, &upvalues, out)
+        })?;
         Ok(FuncRef::new(index, generation))
     }
 
     pub fn make_rust_closure(&mut self, env: Option<TableRef>, held: &[Value]) -> Told<FuncRef> {
         let ([some, table, of], held) = (maybe(env), values(held));
-        let heap = &mut self.heap;
+        let (w, b) = self.heap.lent();
         let [index, generation] =
-            told(|out| ours::make_rust_closure(heap, some, table, of, &held, out))?;
+            told(|out| engine::make_rust_closure(w, b, some, table, of, &held, out))?;
         Ok(FuncRef::new(index, generation))
     }
 
     pub fn make_open_upvalue(&mut self) -> Told<UpvalRef> {
-        let [index, generation] = told(|out| ours::make_open_upvalue(&mut self.heap, out))?;
+        let (w, b) = self.heap.lent();
+        let [index, generation] = told(|out| engine::make_open_upvalue(w, b, out))?;
         Ok(UpvalRef::new(index, generation))
     }
 
     pub fn make_closed_upvalue(&mut self, v: Value) -> Told<UpvalRef> {
         let [tag, low, high] = value(v);
-        let heap = &mut self.heap;
-        let [index, generation] = told(|out| ours::make_closed_upvalue(heap, tag, low, high, out))?;
+        let (w, b) = self.heap.lent();
+        let [index, generation] =
+            told(|out| engine::make_closed_upvalue(w, b, tag, low, high, out))?;
         Ok(UpvalRef::new(index, generation))
     }
 
     pub fn make_userdata(&mut self) -> Told<UdRef> {
-        let [index, generation] = told(|out| ours::make_userdata(&mut self.heap, out))?;
+        let (w, b) = self.heap.lent();
+        let [index, generation] = told(|out| engine::make_userdata(w, b, out))?;
         Ok(UdRef::new(index, generation))
     }
 
     pub fn make_thread(&mut self, global: TableRef, stack: u32) -> Told<ThreadRef> {
-        let heap = &mut self.heap;
+        let (w, b) = self.heap.lent();
         let [index, generation] =
-            told(|out| ours::make_thread(heap, global.index, global.generation, stack, out))?;
+            told(|out| engine::make_thread(w, b, global.index, global.generation, stack, out))?;
         Ok(ThreadRef::new(index, generation))
     }
 
     pub fn table_set(&mut self, t: TableRef, i: u32, v: Value) -> Told<()> {
         let [tag, low, high] = value(v);
-        let heap = &mut self.heap;
-        answered(ours::table_set(
-            heap,
+        let (w, b) = self.heap.lent();
+        answered(engine::table_set(
+            w,
+            b,
             t.index,
             t.generation,
             i,
@@ -172,16 +180,18 @@ impl Collector {
 
     pub fn table_set_node(&mut self, t: TableRef, j: u32, k: Value, v: Value) -> Told<()> {
         let ([key, first, second], [tag, low, high]) = (value(k), value(v));
-        let (heap, index, of) = (&mut self.heap, t.index, t.generation);
-        let code = ours::table_set_node(heap, index, of, j, key, first, second, tag, low, high);
+        let (w, b) = self.heap.lent();
+        let (index, of) = (t.index, t.generation);
+        let code = engine::table_set_node(w, b, index, of, j, key, first, second, tag, low, high);
         answered(code)
     }
 
     pub fn table_set_meta(&mut self, t: TableRef, meta: Option<TableRef>) -> Told<()> {
         let [some, table, of] = maybe(meta);
-        let heap = &mut self.heap;
-        answered(ours::table_set_meta(
-            heap,
+        let (w, b) = self.heap.lent();
+        answered(engine::table_set_meta(
+            w,
+            b,
             t.index,
             t.generation,
             some,
@@ -192,9 +202,10 @@ impl Collector {
 
     pub fn upvalue_close(&mut self, u: UpvalRef, v: Value) -> Told<()> {
         let [tag, low, high] = value(v);
-        let heap = &mut self.heap;
-        answered(ours::upvalue_close(
-            heap,
+        let (w, b) = self.heap.lent();
+        answered(engine::upvalue_close(
+            w,
+            b,
             u.index,
             u.generation,
             tag,
@@ -205,9 +216,10 @@ impl Collector {
 
     pub fn upvalue_set(&mut self, u: UpvalRef, v: Value) -> Told<()> {
         let [tag, low, high] = value(v);
-        let heap = &mut self.heap;
-        answered(ours::upvalue_set(
-            heap,
+        let (w, b) = self.heap.lent();
+        answered(engine::upvalue_set(
+            w,
+            b,
             u.index,
             u.generation,
             tag,
@@ -218,9 +230,10 @@ impl Collector {
 
     pub fn ud_set_meta(&mut self, d: UdRef, meta: Option<TableRef>) -> Told<()> {
         let [some, table, of] = maybe(meta);
-        let heap = &mut self.heap;
-        answered(ours::ud_set_meta(
-            heap,
+        let (w, b) = self.heap.lent();
+        answered(engine::ud_set_meta(
+            w,
+            b,
             d.index,
             d.generation,
             some,
@@ -231,9 +244,10 @@ impl Collector {
 
     pub fn ud_set_env(&mut self, d: UdRef, env: Option<TableRef>) -> Told<()> {
         let [some, table, of] = maybe(env);
-        let heap = &mut self.heap;
-        answered(ours::ud_set_env(
-            heap,
+        let (w, b) = self.heap.lent();
+        answered(engine::ud_set_env(
+            w,
+            b,
             d.index,
             d.generation,
             some,
@@ -244,7 +258,8 @@ impl Collector {
 
     pub fn set_type_meta(&mut self, kind: u32, meta: Option<TableRef>) -> Told<()> {
         let [some, table, of] = maybe(meta);
-        answered(ours::set_type_meta(&mut self.heap, kind, some, table, of))
+        let (w, b) = self.heap.lent();
+        answered(engine::set_type_meta(w, b, kind, some, table, of))
     }
 }
 
@@ -255,46 +270,56 @@ impl Collector {
 impl Collector {
     pub fn push(&mut self, v: Value) -> Told<()> {
         let [tag, low, high] = value(v);
-        answered(ours::push(&mut self.heap, tag, low, high))
+        let (w, b) = self.heap.lent();
+        answered(engine::push(w, b, tag, low, high))
     }
 
     pub fn pop(&mut self) -> Told<Value> {
-        told_value(|out| ours::pop(&mut self.heap, out))
+        let (w, b) = self.heap.lent();
+        told_value(|out| engine::pop(w, b, out))
     }
 
     pub fn stack_set(&mut self, i: u32, v: Value) -> Told<()> {
         let [tag, low, high] = value(v);
-        answered(ours::stack_set(&mut self.heap, i, tag, low, high))
+        let (w, b) = self.heap.lent();
+        answered(engine::stack_set(w, b, i, tag, low, high))
     }
 
     pub fn set_top(&mut self, top: u32) -> Told<()> {
-        answered(ours::set_top(&mut self.heap, top))
+        let (w, b) = self.heap.lent();
+        answered(engine::set_top(w, b, top))
     }
 
     pub fn open_push(&mut self, u: UpvalRef) -> Told<()> {
-        answered(ours::open_push(&mut self.heap, u.index, u.generation))
+        let (w, b) = self.heap.lent();
+        answered(engine::open_push(w, b, u.index, u.generation))
     }
 
     pub fn open_cut(&mut self, count: u32) -> Told<()> {
-        answered(ours::open_cut(&mut self.heap, count))
+        let (w, b) = self.heap.lent();
+        answered(engine::open_cut(w, b, count))
     }
 
     pub fn set_frame(&mut self, frame: u32, function: u32) -> Told<()> {
-        answered(ours::set_frame(&mut self.heap, frame, function))
+        let (w, b) = self.heap.lent();
+        answered(engine::set_frame(w, b, frame, function))
     }
 
     pub fn set_ci(&mut self, ci: u32) -> Told<()> {
-        answered(ours::set_ci(&mut self.heap, ci))
+        let (w, b) = self.heap.lent();
+        answered(engine::set_ci(w, b, ci))
     }
 
     pub fn set_error(&mut self, v: Value) -> Told<()> {
         let [tag, low, high] = value(v);
-        answered(ours::set_error(&mut self.heap, tag, low, high))
+        let (w, b) = self.heap.lent();
+        answered(engine::set_error(w, b, tag, low, high))
     }
 
     pub fn set_hook(&mut self, v: Value) -> Told<()> {
         let [tag, low, high] = value(v);
-        answered(ours::set_hook(&mut self.heap, tag, low, high))
+        let (w, b) = self.heap.lent();
+        answered(engine::set_hook(w, b, tag, low, high))
     }
 }
 
@@ -305,9 +330,10 @@ impl Collector {
 impl Collector {
     pub fn thread_push(&mut self, h: ThreadRef, v: Value) -> Told<()> {
         let [tag, low, high] = value(v);
-        let heap = &mut self.heap;
-        answered(ours::thread_push(
-            heap,
+        let (w, b) = self.heap.lent();
+        answered(engine::thread_push(
+            w,
+            b,
             h.index,
             h.generation,
             tag,
@@ -317,14 +343,16 @@ impl Collector {
     }
 
     pub fn thread_pop(&mut self, h: ThreadRef) -> Told<Value> {
-        told_value(|out| ours::thread_pop(&mut self.heap, h.index, h.generation, out))
+        let (w, b) = self.heap.lent();
+        told_value(|out| engine::thread_pop(w, b, h.index, h.generation, out))
     }
 
     pub fn thread_set(&mut self, h: ThreadRef, i: u32, v: Value) -> Told<()> {
         let [tag, low, high] = value(v);
-        let heap = &mut self.heap;
-        answered(ours::thread_set(
-            heap,
+        let (w, b) = self.heap.lent();
+        answered(engine::thread_set(
+            w,
+            b,
             h.index,
             h.generation,
             i,
@@ -335,18 +363,15 @@ impl Collector {
     }
 
     pub fn thread_set_top(&mut self, h: ThreadRef, top: u32) -> Told<()> {
-        answered(ours::thread_set_top(
-            &mut self.heap,
-            h.index,
-            h.generation,
-            top,
-        ))
+        let (w, b) = self.heap.lent();
+        answered(engine::thread_set_top(w, b, h.index, h.generation, top))
     }
 
     pub fn thread_open_push(&mut self, h: ThreadRef, u: UpvalRef) -> Told<()> {
-        let heap = &mut self.heap;
-        answered(ours::thread_open_push(
-            heap,
+        let (w, b) = self.heap.lent();
+        answered(engine::thread_open_push(
+            w,
+            b,
             h.index,
             h.generation,
             u.index,
@@ -355,18 +380,15 @@ impl Collector {
     }
 
     pub fn thread_open_cut(&mut self, h: ThreadRef, count: u32) -> Told<()> {
-        answered(ours::thread_open_cut(
-            &mut self.heap,
-            h.index,
-            h.generation,
-            count,
-        ))
+        let (w, b) = self.heap.lent();
+        answered(engine::thread_open_cut(w, b, h.index, h.generation, count))
     }
 
     pub fn thread_suspended_push(&mut self, h: ThreadRef, u: UpvalRef) -> Told<()> {
-        let heap = &mut self.heap;
-        answered(ours::thread_suspended_push(
-            heap,
+        let (w, b) = self.heap.lent();
+        answered(engine::thread_suspended_push(
+            w,
+            b,
             h.index,
             h.generation,
             u.index,
@@ -375,8 +397,10 @@ impl Collector {
     }
 
     pub fn thread_suspended_cut(&mut self, h: ThreadRef, count: u32) -> Told<()> {
-        answered(ours::thread_suspended_cut(
-            &mut self.heap,
+        let (w, b) = self.heap.lent();
+        answered(engine::thread_suspended_cut(
+            w,
+            b,
             h.index,
             h.generation,
             count,
@@ -384,9 +408,10 @@ impl Collector {
     }
 
     pub fn thread_set_global(&mut self, h: ThreadRef, t: TableRef) -> Told<()> {
-        let heap = &mut self.heap;
-        answered(ours::thread_set_global(
-            heap,
+        let (w, b) = self.heap.lent();
+        answered(engine::thread_set_global(
+            w,
+            b,
             h.index,
             h.generation,
             t.index,
@@ -396,9 +421,10 @@ impl Collector {
 
     pub fn thread_set_error(&mut self, h: ThreadRef, v: Value) -> Told<()> {
         let [tag, low, high] = value(v);
-        let heap = &mut self.heap;
-        answered(ours::thread_set_error(
-            heap,
+        let (w, b) = self.heap.lent();
+        answered(engine::thread_set_error(
+            w,
+            b,
             h.index,
             h.generation,
             tag,
@@ -409,9 +435,10 @@ impl Collector {
 
     pub fn thread_set_hook(&mut self, h: ThreadRef, v: Value) -> Told<()> {
         let [tag, low, high] = value(v);
-        let heap = &mut self.heap;
-        answered(ours::thread_set_hook(
-            heap,
+        let (w, b) = self.heap.lent();
+        answered(engine::thread_set_hook(
+            w,
+            b,
             h.index,
             h.generation,
             tag,
@@ -458,14 +485,16 @@ impl Collector {
 
     /// The pause before.
     pub fn set_pause(&mut self, percent: u32) -> Told<u32> {
-        let [before, high] = told(|out| ours::set_pause(&mut self.heap, percent, out))?;
+        let (w, b) = self.heap.lent();
+        let [before, high] = told(|out| engine::set_pause(w, b, percent, out))?;
         assert_eq!(high, 0, "a word and 0");
         Ok(before)
     }
 
     /// The step multiplier before.
     pub fn set_stepmul(&mut self, percent: u32) -> Told<u32> {
-        let [before, high] = told(|out| ours::set_stepmul(&mut self.heap, percent, out))?;
+        let (w, b) = self.heap.lent();
+        let [before, high] = told(|out| engine::set_stepmul(w, b, percent, out))?;
         assert_eq!(high, 0, "a word and 0");
         Ok(before)
     }
@@ -473,7 +502,8 @@ impl Collector {
     /// The limit before; none is 2^64 - 1.
     pub fn set_limit(&mut self, limit: Option<u64>) -> Told<Option<u64>> {
         let limit = limit.unwrap_or(u64::MAX);
-        let [low, high] = told(|out| ours::set_limit(&mut self.heap, limit, out))?;
+        let (w, b) = self.heap.lent();
+        let [low, high] = told(|out| engine::set_limit(w, b, limit, out))?;
         Ok(Some(joined(low, high)).filter(|n| *n != u64::MAX))
     }
 

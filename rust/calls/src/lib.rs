@@ -6,13 +6,13 @@
 //! of ours is made by our own calls alone, from `make_heap` on. [`heaps`] does so on random heaps, with
 //! commands of the oracle's generator that [`bend`] sometimes takes to an edge.
 
+#![forbid(unsafe_code)]
+
 pub mod bend;
 pub mod collector;
 pub mod compare;
 pub mod give;
 pub mod heaps;
-pub mod ours;
 pub mod tally;
 
-pub use collector::Collector;
-pub use ours::DECLARED;
+pub use self::collector::Collector;

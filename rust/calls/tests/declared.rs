@@ -1,6 +1,7 @@
 //! One list of exported functions: the Rattle source has it, and the header, the Rust declarations
 //! and the archives are held to it, name by name and type by type.
 
+use collector::engine;
 use std::collections::BTreeMap;
 use std::fs;
 use std::path::{Path, PathBuf};
@@ -121,82 +122,12 @@ fn header() -> Functions {
     found
 }
 
-/// The types of parameters; one without a type is a word.
-fn rust_types(list: &str) -> Signature {
-    let kind = |p: &str| {
-        p.split_once(':')
-            .map_or("u32", |(_, kind)| kind.trim())
-            .to_owned()
-    };
-    parameters(list).map(kind).collect()
-}
-
-/// The parameters that a macro declares for a row: `$(..)` with the row's numbers, or with words for
-/// the answer where the row gives any.
-fn expanded(frame: &str, numbers: &str, gives: bool) -> Signature {
-    let mut types = Vec::new();
-    let mut rest = frame;
-    while let Some((before, after)) = rest.split_once("$(") {
-        let (group, after) = after.split_once(')').expect("a group's end");
-        types.extend(rust_types(before));
-        if group.starts_with("$number") {
-            types.extend(rust_types(numbers));
-        } else if gives {
-            types.extend(rust_types(group));
-        }
-        rest = &after[1..];
-    }
-    types.extend(rust_types(rest));
-    types
-}
-
-/// The declarations of a file: those written out, and the rows of a macro.
-fn declared_in(file: &str) -> Functions {
-    let source = text(file);
-    let mut found = Functions::new();
-    let mut frame = None;
-    let mut rest = source.as_str();
-    while let Some((name, after)) = between(rest, "pub fn ", "(") {
-        rest = after;
-        // What is declared has no body; all else in such a file has one.
-        let Some((list, after)) = after.split_once(") -> u32;") else {
-            continue;
-        };
-        if name == "$name" {
-            frame = frame.or(Some(list));
-        } else if name.starts_with("sieddesan_") {
-            found.insert(name.to_owned(), rust_types(list));
-            rest = after;
-        }
-    }
-    for line in source.lines() {
-        let row = between(line, ": sieddesan_", "(").filter(|_| line.ends_with(';'));
-        let Some((name, after)) = row else { continue };
-        let (numbers, after) = after.split_once(')').expect("a row's end");
-        let frame = frame.expect("a macro declares its rows");
-        // Where a row says whether bytes may be written, that stands behind the name.
-        let (name, bytes) = name.trim().split_once(' ').unwrap_or((name, ""));
-        let types = expanded(
-            &frame.replace("$bytes", bytes),
-            numbers,
-            after.contains("gives"),
-        );
-        found.insert(format!("sieddesan_{name}"), types);
-    }
-    found
-}
-
 fn declared() -> Functions {
     let mut all = Functions::new();
-    for (name, types) in calls::DECLARED {
+    for (name, types) in engine::DECLARED.iter().chain(slots::DECLARED) {
         let types = types.iter().map(|t| (*t).to_owned()).collect();
-        all.insert((*name).to_owned(), types);
-    }
-    for name in ["audit", "heap", "slots", "steps"] {
-        for (function, types) in declared_in(&format!("rust/{name}/src/ours.rs")) {
-            let twice = all.insert(function.clone(), types);
-            assert_eq!(twice, None, "{function} of {name} is declared twice");
-        }
+        let twice = all.insert((*name).to_owned(), types);
+        assert_eq!(twice, None, "{name} is declared twice");
     }
     all
 }

@@ -3,7 +3,7 @@
 
 use calls::Collector;
 use calls::give::give;
-use calls::ours;
+use collector::engine;
 use heap::Words;
 use heap::layout::header;
 use oracle::generate::commands;
@@ -68,71 +68,85 @@ fn every_call_refuses_what_test_1_refuses() {
 
 /// A call with numbers that are no tag, no `some` or no whole list; its answer is lent so many
 /// words.
-type Odd = (&'static str, usize, fn(&mut Words, &mut [u32]) -> u32);
+type Odd = (&'static str, usize, Call);
+
+/// A call on both buffers and the words for its answer.
+type Call = fn(&mut [u32], &mut [u8], &mut [u32]) -> u32;
 
 const ODD: &[Odd] = &[
-    ("proto, tag", 2, |h, o| {
-        ours::make_proto(h, &[9, 0, 0], &[], o)
+    ("proto, tag", 2, |w, b, o| {
+        engine::make_proto(w, b, &[9, 0, 0], &[], o)
     }),
-    ("proto, list", 2, |h, o| {
-        ours::make_proto(h, &[0; 4], &[], o)
+    ("proto, list", 2, |w, b, o| {
+        engine::make_proto(w, b, &[0; 4], &[], o)
     }),
-    ("lua closure, list", 2, |h, o| {
-        ours::make_lua_closure(h, 0, 0, 0, &[0; 3], o)
+    ("lua closure, list", 2, |w, b, o| {
+        engine::make_lua_closure(w, b, 0, 0, 0, &[0; 3], o)
     }),
-    ("rust closure, tag", 2, |h, o| {
-        ours::make_rust_closure(h, 0, 0, 0, &[9, 0, 0], o)
+    ("rust closure, tag", 2, |w, b, o| {
+        engine::make_rust_closure(w, b, 0, 0, 0, &[9, 0, 0], o)
     }),
-    ("rust closure, list", 2, |h, o| {
-        ours::make_rust_closure(h, 0, 0, 0, &[0; 2], o)
+    ("rust closure, list", 2, |w, b, o| {
+        engine::make_rust_closure(w, b, 0, 0, 0, &[0; 2], o)
     }),
-    ("rust closure, some", 2, |h, o| {
-        ours::make_rust_closure(h, 2, 0, 0, &[], o)
+    ("rust closure, some", 2, |w, b, o| {
+        engine::make_rust_closure(w, b, 2, 0, 0, &[], o)
     }),
-    ("closed upvalue", 2, |h, o| {
-        ours::make_closed_upvalue(h, 9, 0, 0, o)
+    ("closed upvalue", 2, |w, b, o| {
+        engine::make_closed_upvalue(w, b, 9, 0, 0, o)
     }),
-    ("table_set", 0, |h, _| ours::table_set(h, 0, 0, 0, 9, 0, 0)),
-    ("table_set_node, key", 0, |h, _| {
-        ours::table_set_node(h, 0, 0, 0, 9, 0, 0, 0, 0, 0)
+    ("table_set", 0, |w, b, _| {
+        engine::table_set(w, b, 0, 0, 0, 9, 0, 0)
     }),
-    ("table_set_node, value", 0, |h, _| {
-        ours::table_set_node(h, 0, 0, 0, 1, 0, 0, u32::MAX, 0, 0)
+    ("table_set_node, key", 0, |w, b, _| {
+        engine::table_set_node(w, b, 0, 0, 0, 9, 0, 0, 0, 0, 0)
     }),
-    ("table_set_meta", 0, |h, _| {
-        ours::table_set_meta(h, 0, 0, 2, 0, 0)
+    ("table_set_node, value", 0, |w, b, _| {
+        engine::table_set_node(w, b, 0, 0, 0, 1, 0, 0, u32::MAX, 0, 0)
     }),
-    ("upvalue_close", 0, |h, _| {
-        ours::upvalue_close(h, 0, 0, 9, 0, 0)
+    ("table_set_meta", 0, |w, b, _| {
+        engine::table_set_meta(w, b, 0, 0, 2, 0, 0)
     }),
-    ("upvalue_set", 0, |h, _| ours::upvalue_set(h, 0, 0, 9, 0, 0)),
-    ("ud_set_meta", 0, |h, _| ours::ud_set_meta(h, 0, 0, 2, 0, 0)),
-    ("ud_set_env", 0, |h, _| {
-        ours::ud_set_env(h, 0, 0, u32::MAX, 0, 0)
+    ("upvalue_close", 0, |w, b, _| {
+        engine::upvalue_close(w, b, 0, 0, 9, 0, 0)
     }),
-    ("set_type_meta", 0, |h, _| {
-        ours::set_type_meta(h, 0, 2, 0, 0)
+    ("upvalue_set", 0, |w, b, _| {
+        engine::upvalue_set(w, b, 0, 0, 9, 0, 0)
     }),
-    ("push", 0, |h, _| ours::push(h, 9, 0, 0)),
-    ("stack_set", 0, |h, _| ours::stack_set(h, 0, 9, 0, 0)),
-    ("set_error", 0, |h, _| ours::set_error(h, 9, 0, 0)),
-    ("set_hook", 0, |h, _| ours::set_hook(h, 9, 0, 0)),
-    ("thread_push", 0, |h, _| ours::thread_push(h, 0, 0, 9, 0, 0)),
-    ("thread_set", 0, |h, _| {
-        ours::thread_set(h, 0, 0, 0, 9, 0, 0)
+    ("ud_set_meta", 0, |w, b, _| {
+        engine::ud_set_meta(w, b, 0, 0, 2, 0, 0)
     }),
-    ("thread_set_error", 0, |h, _| {
-        ours::thread_set_error(h, 0, 0, 9, 0, 0)
+    ("ud_set_env", 0, |w, b, _| {
+        engine::ud_set_env(w, b, 0, 0, u32::MAX, 0, 0)
     }),
-    ("thread_set_hook", 0, |h, _| {
-        ours::thread_set_hook(h, 0, 0, 9, 0, 0)
+    ("set_type_meta", 0, |w, b, _| {
+        engine::set_type_meta(w, b, 0, 2, 0, 0)
+    }),
+    ("push", 0, |w, b, _| engine::push(w, b, 9, 0, 0)),
+    ("stack_set", 0, |w, b, _| {
+        engine::stack_set(w, b, 0, 9, 0, 0)
+    }),
+    ("set_error", 0, |w, b, _| engine::set_error(w, b, 9, 0, 0)),
+    ("set_hook", 0, |w, b, _| engine::set_hook(w, b, 9, 0, 0)),
+    ("thread_push", 0, |w, b, _| {
+        engine::thread_push(w, b, 0, 0, 9, 0, 0)
+    }),
+    ("thread_set", 0, |w, b, _| {
+        engine::thread_set(w, b, 0, 0, 0, 9, 0, 0)
+    }),
+    ("thread_set_error", 0, |w, b, _| {
+        engine::thread_set_error(w, b, 0, 0, 9, 0, 0)
+    }),
+    ("thread_set_hook", 0, |w, b, _| {
+        engine::thread_set_hook(w, b, 0, 0, 9, 0, 0)
     }),
 ];
 
 /// Makes a call whose answer is lent words, and holds it to a code; nothing is changed.
-fn held(name: &str, heap: &Words, lent: usize, call: fn(&mut Words, &mut [u32]) -> u32, code: u32) {
+fn held(name: &str, heap: &Words, lent: usize, call: Call, code: u32) {
     let (mut after, mut out) = (heap.clone(), vec![0xa5a5_a5a5; lent]);
-    assert_eq!(call(&mut after, &mut out), code, "{name}");
+    let (w, b) = after.lent();
+    assert_eq!(call(w, b, &mut out), code, "{name}");
     assert!(after == *heap, "{name} changed the heap");
     assert!(
         out.iter().all(|w| *w == 0xa5a5_a5a5),
@@ -159,26 +173,34 @@ fn numbers_that_are_no_tag() {
 
 /// The calls that tell something, each with how many words.
 const TELLING: &[Odd] = &[
-    ("make_string", 2, |h, o| ours::make_string(h, b"new", o)),
-    ("make_table", 2, |h, o| ours::make_table(h, 0, 0, o)),
-    ("make_proto", 2, |h, o| ours::make_proto(h, &[], &[], o)),
-    ("make_lua_closure", 2, |h, o| {
-        ours::make_lua_closure(h, 0, 0, 0, &[], o)
+    ("make_string", 2, |w, b, o| {
+        engine::make_string(w, b, b"new", o)
     }),
-    ("make_rust_closure", 2, |h, o| {
-        ours::make_rust_closure(h, 0, 0, 0, &[], o)
+    ("make_table", 2, |w, b, o| engine::make_table(w, b, 0, 0, o)),
+    ("make_proto", 2, |w, b, o| {
+        engine::make_proto(w, b, &[], &[], o)
     }),
-    ("make_open_upvalue", 2, |h, o| ours::make_open_upvalue(h, o)),
-    ("make_closed_upvalue", 2, |h, o| {
-        ours::make_closed_upvalue(h, 0, 0, 0, o)
+    ("make_lua_closure", 2, |w, b, o| {
+        engine::make_lua_closure(w, b, 0, 0, 0, &[], o)
     }),
-    ("make_userdata", 2, |h, o| ours::make_userdata(h, o)),
-    ("make_thread", 2, |h, o| ours::make_thread(h, 0, 0, 0, o)),
-    ("pop", 3, |h, o| ours::pop(h, o)),
-    ("thread_pop", 3, |h, o| ours::thread_pop(h, 0, 0, o)),
-    ("set_pause", 2, |h, o| ours::set_pause(h, 7, o)),
-    ("set_stepmul", 2, |h, o| ours::set_stepmul(h, 7, o)),
-    ("set_limit", 2, |h, o| ours::set_limit(h, 7, o)),
+    ("make_rust_closure", 2, |w, b, o| {
+        engine::make_rust_closure(w, b, 0, 0, 0, &[], o)
+    }),
+    ("make_open_upvalue", 2, |w, b, o| {
+        engine::make_open_upvalue(w, b, o)
+    }),
+    ("make_closed_upvalue", 2, |w, b, o| {
+        engine::make_closed_upvalue(w, b, 0, 0, 0, o)
+    }),
+    ("make_userdata", 2, |w, b, o| engine::make_userdata(w, b, o)),
+    ("make_thread", 2, |w, b, o| {
+        engine::make_thread(w, b, 0, 0, 0, o)
+    }),
+    ("pop", 3, |w, b, o| engine::pop(w, b, o)),
+    ("thread_pop", 3, |w, b, o| engine::thread_pop(w, b, 0, 0, o)),
+    ("set_pause", 2, |w, b, o| engine::set_pause(w, b, 7, o)),
+    ("set_stepmul", 2, |w, b, o| engine::set_stepmul(w, b, 7, o)),
+    ("set_limit", 2, |w, b, o| engine::set_limit(w, b, 7, o)),
 ];
 
 #[test]

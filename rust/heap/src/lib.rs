@@ -1,8 +1,10 @@
-//! The proved heap, from the static library, beside the source's in one process.
+//! The proved heap, from the crate collector, beside the source's in one process.
 //!
 //! [`Words`] is a heap of ours in its two lent buffers; [`Layout`] says where everything lies in
 //! them, [`words`] writes a heap of the source's out at those places, [`read`] reads one of ours
 //! by the exported reads, and [`compared`] holds a new heap to what [`oracle::Oracle`] has.
+
+#![forbid(unsafe_code)]
 
 pub mod ask;
 mod compare;

@@ -9,6 +9,6 @@ mod ours;
 mod pair;
 pub mod run;
 
-pub use ours::{Ours, Swept};
+pub use ours::{DECLARED, Ours, Swept};
 pub use pair::{Answer, Operation, Pair};
 pub use proved::Refused;

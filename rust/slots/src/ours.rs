@@ -49,7 +49,33 @@ macro_rules! exported {
                 })
             })*
         }
+
+        /// The name of each function and the types of its parameters.
+        pub const DECLARED: &[(&str, &[&str])] = &[$((
+            stringify!($name),
+            &[
+                "*mut u32",
+                "usize",
+                concat!("*", stringify!($bytes), " u8"),
+                "usize",
+                "usize",
+                "usize",
+                "usize",
+                $(word(stringify!($number)),)*
+                $(words(stringify!($out)), "usize",)?
+            ],
+        )),*];
     };
+}
+
+/// The type of a number, whatever its name.
+const fn word(_: &str) -> &'static str {
+    "u32"
+}
+
+/// The type of words for an answer, whatever their name.
+const fn words(_: &str) -> &'static str {
+    "*mut u32"
 }
 
 exported! {

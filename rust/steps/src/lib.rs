@@ -2,14 +2,13 @@
 //!
 //! [`heap::words`] transcribes a heap of the oracle into the two buffers that ours has for it.
 //! [`compare`] makes each step of a driven oracle on them too, through an [`Engine`]: ours, or a
-//! [`StandIn`] as long as there is no library of the steps. [`heaps`] does so on random heaps and
+//! [`StandIn`], which tries the comparison itself. [`heaps`] does so on random heaps and
 //! [`shrink`] makes short scripts of what differs; [`names`] says what a word is. [`cycle`] says what
 //! the program steps_cycle reads and prints.
 //!
-//! The feature `engine_steps` links ours: `rt staticlib step_engine` at the repository's root, then
-//! `cargo run --offline --release -p steps --features engine_steps --bin compare_steps`.
+//! The feature `engine_steps`, which is on by itself, takes ours; without it the stand-in is taken.
 
-#![cfg_attr(not(feature = "engine_steps"), forbid(unsafe_code))]
+#![forbid(unsafe_code)]
 
 pub mod compare;
 pub mod cycle;
@@ -25,7 +24,7 @@ pub mod tally;
 pub use engine::Engine;
 pub use standin::StandIn;
 
-/// The engine of the static library, if it is linked (feature `engine_steps`).
+/// The engine of the static libraries, if it is asked for (feature `engine_steps`).
 #[must_use]
 pub fn linked() -> Option<Box<dyn Engine>> {
     #[cfg(feature = "engine_steps")]

@@ -1,59 +1,33 @@
-//! The exported steps behind the trait. All that is unsafe in this crate stands here.
+//! The steps of the engine behind the trait.
 
 use crate::engine::Engine;
+use collector::engine;
 
-/// A slice passes as a pointer and a length. Nothing checks these declarations against the Rattle
-/// source, so they are few, and each is compared with the source's collector.
-macro_rules! steps {
-    ($($method:ident: $name:ident($($number:ident: $kind:ty)?);)*) => {
-        mod exported {
-            unsafe extern "C" {
-                $(pub fn $name(
-                    w: *mut u32,
-                    w_len: usize,
-                    b: *mut u8,
-                    b_len: usize,
-                    $($number: $kind,)?
-                    out: *mut u32,
-                    out_len: usize,
-                ) -> u32;)*
-            }
-        }
+/// The engine of the static libraries; its heap is in the lent buffers alone.
+pub struct Ours;
 
-        /// The engine of the static library; its heap is in the lent buffers alone.
-        pub struct Ours;
+impl Engine for Ours {
+    fn gc_singlestep(&mut self, w: &mut [u32], b: &mut [u8], out: &mut [u32]) -> u32 {
+        engine::gc_singlestep(w, b, out)
+    }
 
-        impl Engine for Ours {
-            $(fn $method(
-                &mut self,
-                w: &mut [u32],
-                b: &mut [u8],
-                $($number: $kind,)?
-                out: &mut [u32],
-            ) -> u32 {
-                // SAFETY: each pointer is that of a live slice, with its length; the function has
-                // no requirement and writes only within the lengths given.
-                unsafe {
-                    exported::$name(
-                        w.as_mut_ptr(),
-                        w.len(),
-                        b.as_mut_ptr(),
-                        b.len(),
-                        $($number,)?
-                        out.as_mut_ptr(),
-                        out.len(),
-                    )
-                }
-            })*
-        }
-    };
-}
+    fn gc_step(&mut self, w: &mut [u32], b: &mut [u8], budget: i64, out: &mut [u32]) -> u32 {
+        engine::gc_step(w, b, budget, out)
+    }
 
-steps! {
-    gc_singlestep: sieddesan_gc_singlestep();
-    gc_step: sieddesan_gc_step(budget: i64);
-    gc_step_auto: sieddesan_gc_step_auto();
-    gc_check: sieddesan_gc_check();
-    full_gc: sieddesan_full_gc();
-    finish: sieddesan_finish(ok: u32);
+    fn gc_step_auto(&mut self, w: &mut [u32], b: &mut [u8], out: &mut [u32]) -> u32 {
+        engine::gc_step_auto(w, b, out)
+    }
+
+    fn gc_check(&mut self, w: &mut [u32], b: &mut [u8], out: &mut [u32]) -> u32 {
+        engine::gc_check(w, b, out)
+    }
+
+    fn full_gc(&mut self, w: &mut [u32], b: &mut [u8], out: &mut [u32]) -> u32 {
+        engine::full_gc(w, b, out)
+    }
+
+    fn finish(&mut self, w: &mut [u32], b: &mut [u8], ok: u32, out: &mut [u32]) -> u32 {
+        engine::finish(w, b, ok, out)
+    }
 }

@@ -1,5 +1,0 @@
-//! Links the proved audit.
-
-fn main() {
-    proved::link("audit_engine");
-}

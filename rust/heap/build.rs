@@ -1,5 +1,0 @@
-//! Links the proved heap.
-
-fn main() {
-    proved::link("engine");
-}
