@@ -81,13 +81,17 @@ local function round(dead, repeats)
   return sum / repeats * 1e9
 end
 
-for _, slots in ipairs({ 64, 512, 4096 }) do
+-- Each size with its name.
+local sizes = { { 64, "64" }, { 512, "512" }, { 4096, "4,096" } }
+
+for _, size in ipairs(sizes) do
+  local slots, name = size[1], size[2]
   for _, state in ipairs(states) do
     collectgarbage("stop")
     local roots, dead = heap(slots, state)
     collect()
     for _ = 1, rounds do
-      print(string.format("%d slots, %s\t%.0f", slots, state.name, round(dead, 16384 / slots)))
+      print(string.format("%s slots, %s\t%.0f", name, state.name, round(dead, 16384 / slots)))
     end
     assert(roots[1] and roots[2])
   end

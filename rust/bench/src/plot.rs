@@ -2,12 +2,16 @@
 
 use crate::group::{self, Group};
 use crate::lua::Lua;
-use crate::row::{MOST_RATIO, Row};
+use crate::numbers::round_time;
+use crate::row::{MOST_RATIO, Row, grouped};
 use crate::svg::{Axis, Svg};
 use timing::Spread;
 
-/// Pixels of a row, of a group's title, of the names at the left, and of the whole.
+/// Pixels of a row, of a row with several engines and of each of them, of a group's title, of the
+/// names at the left, and of the whole.
 const ROW: f64 = 16.0;
+const ENGINES_ROW: f64 = 30.0;
+const ENGINE: f64 = 6.0;
 const TITLE: f64 = 24.0;
 const NAMES: f64 = 250.0;
 const WIDTH: f64 = 860.0;
@@ -15,6 +19,12 @@ const WIDTH: f64 = 860.0;
 const WITHIN: &str = "#0072b2";
 const ABOVE: &str = "#d55e00";
 const PLAIN: &str = "#777777";
+const KEY: [(&str, &str); 3] = [
+    (WITHIN, "within what is asked of it"),
+    (ABOVE, "above what is asked of it"),
+    (PLAIN, "nothing is asked"),
+];
+
 const ENGINES: [&str; 4] = ["#0072b2", "#e69f00", "#009e73", "#cc79a7"];
 
 /// An axis over all that is to be shown.
@@ -47,16 +57,6 @@ fn colour(row: &Row) -> &'static str {
     }
 }
 
-/// The groups that have ratios, each with its rows.
-fn grouped(rows: &[Row]) -> Vec<(&'static Group, Vec<&Row>)> {
-    let of = |group: &'static Group| -> Vec<&Row> {
-        let shown = |row: &&Row| row.group.key == group.key && row.ratio.is_some();
-        rows.iter().filter(shown).collect()
-    };
-    let all = group::ALL.into_iter().map(|group| (group, of(group)));
-    all.filter(|(_, rows)| !rows.is_empty()).collect()
-}
-
 fn height(groups: &[(&'static Group, Vec<&Row>)]) -> f64 {
     let rows: usize = groups.iter().map(|(_, rows)| rows.len()).sum();
     rows as f64 * ROW + groups.len() as f64 * TITLE
@@ -64,13 +64,18 @@ fn height(groups: &[(&'static Group, Vec<&Row>)]) -> f64 {
 
 /// The ratios from a height on; the height below them.
 fn ratios(svg: &mut Svg, rows: &[Row], top: f64) -> f64 {
-    let groups = grouped(rows);
-    let axis = axis(rows.iter().filter_map(|row| row.ratio), &RATIOS);
+    let groups = grouped(rows.iter().filter(|row| row.ratio.is_some()));
+    let limits = [1.0, MOST_RATIO].map(|n| Spread::of(vec![n]));
+    let shown = rows.iter().filter_map(|row| row.ratio).chain(limits);
+    let axis = axis(shown, &RATIOS);
     svg.title(
         top,
         "Ours over the source's time: median of the runs, lowest to highest",
     );
-    let (first, mut y) = (top + 30.0, top + 30.0);
+    for (i, (colour, text)) in KEY.into_iter().enumerate() {
+        svg.legend(NAMES + 180.0 * i as f64, top + 20.0, text, colour);
+    }
+    let (first, mut y) = (top + 52.0, top + 52.0);
     let last = first + height(&groups);
     svg.ticks(&axis, &RATIOS, (first, last), |n| n.to_string());
     svg.limit(axis.at(1.0), (first, last), "1.0", "end");
@@ -122,14 +127,14 @@ fn beside(svg: &mut Svg, rows: &[Row], lua: &[Lua], top: f64) -> f64 {
         svg.legend(NAMES + 130.0 * i as f64, top + 20.0, name, colour);
     }
     let (first, mut y) = (top + 52.0, top + 52.0);
-    let last = first + rows.len() as f64 * ROW;
-    svg.ticks(&axis, &TIMES, (first, last), crate::numbers::round_time);
+    let last = first + rows.len() as f64 * ENGINES_ROW;
+    svg.ticks(&axis, &TIMES, (first, last), round_time);
     for row in rows {
-        svg.name(NAMES - 10.0, y + 12.0, &row.name);
-        for (_, colour, spread) in engines(row, lua) {
-            svg.dot(&axis, y + 8.0, spread, colour);
+        svg.name(NAMES - 10.0, y + ENGINES_ROW / 2.0 + 4.0, &row.name);
+        for (i, (_, colour, spread)) in engines(row, lua).into_iter().enumerate() {
+            svg.dot(&axis, y + ENGINE * (i as f64 + 1.0), spread, colour);
         }
-        y += ROW;
+        y += ENGINES_ROW;
     }
     y
 }

@@ -1,6 +1,6 @@
 //! A row over all runs.
 
-use crate::group::{Demand, Group};
+use crate::group::{self, Demand, Group};
 use crate::line::Line;
 use timing::Spread;
 
@@ -63,10 +63,22 @@ pub fn rows(runs: &[Vec<Line>]) -> Result<Vec<Row>, String> {
     Ok((0..first.len()).map(row).collect())
 }
 
+/// The groups that have any of these rows, in the order of the page.
+pub fn grouped<'a>(
+    rows: impl Iterator<Item = &'a Row> + Clone,
+) -> Vec<(&'static Group, Vec<&'a Row>)> {
+    let of = |group: &'static Group| {
+        let rows = rows.clone().filter(|row| row.group.key == group.key);
+        (group, rows.collect())
+    };
+    let all = group::ALL.into_iter().map(of);
+    all.filter(|(_, rows): &(_, Vec<_>)| !rows.is_empty())
+        .collect()
+}
+
 #[cfg(test)]
 mod tests {
     use super::*;
-    use crate::group;
 
     fn line(name: &str, ours: f64, source: Option<f64>) -> Line {
         Line {

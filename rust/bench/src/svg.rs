@@ -115,7 +115,7 @@ impl Svg {
             "<line x1=\"{low:.1}\" y1=\"{y:.1}\" x2=\"{high:.1}\" y2=\"{y:.1}\" stroke=\"{colour}\" stroke-width=\"2\"/>"
         ));
         self.mark(format_args!(
-            "<circle cx=\"{median:.1}\" cy=\"{y:.1}\" r=\"4\" fill=\"{colour}\"/>"
+            "<circle cx=\"{median:.1}\" cy=\"{y:.1}\" r=\"3.5\" fill=\"{colour}\"/>"
         ));
     }
 

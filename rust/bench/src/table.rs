@@ -3,7 +3,7 @@
 use crate::group::{self, Group};
 use crate::lua::Lua;
 use crate::numbers::{ratio, ratios, times};
-use crate::row::Row;
+use crate::row::{Row, grouped};
 
 /// A table's line.
 fn line(cells: &[String]) -> String {
@@ -77,13 +77,8 @@ fn table(group: &Group, rows: &[&Row], lua: &[Lua]) -> String {
 
 /// All tables, in the order of the groups.
 pub fn tables(rows: &[Row], lua: &[Lua]) -> String {
-    let of = |group: &&Group| -> Vec<&Row> {
-        let same = |row: &&Row| row.group.key == group.key;
-        rows.iter().filter(same).collect()
-    };
-    let shown = group::ALL.iter().map(|group| (group, of(group)));
-    let tables = shown.filter(|(_, rows)| !rows.is_empty());
-    let tables: Vec<String> = tables
+    let groups = grouped(rows.iter()).into_iter();
+    let tables: Vec<String> = groups
         .map(|(group, rows)| table(group, &rows, lua))
         .collect();
     tables.join("\n")

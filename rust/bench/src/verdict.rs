@@ -6,7 +6,7 @@ use crate::numbers::{ratio, time};
 use crate::row::{MOST_NANOSECONDS, MOST_RATIO, Row};
 
 /// The row that is to take at most half the source's time.
-const HALF: &str = "4096 slots, all live";
+const HALF: &str = "4,096 slots, all live";
 
 fn said(met: bool) -> &'static str {
     if met { "yes" } else { "no" }

@@ -3,13 +3,13 @@
 use crate::graph::{Graph, Kinds, State};
 use crate::run::{Run, both};
 
-/// Slots of an arena.
-const SLOTS: [u32; 3] = [64, 512, 4096];
+/// Slots of an arena, each number with its name.
+const SLOTS: [(u32, &str); 3] = [(64, "64"), (512, "512"), (4096, "4,096")];
 
 fn collections(run: &Run, kinds: Kinds, what: &str) {
-    for slots in SLOTS {
+    for (slots, number) in SLOTS {
         for state in State::ALL {
-            let name = format!("{slots} slots, {}", state.name());
+            let name = format!("{number} slots, {}", state.name());
             let repeats = 4096 / slots;
             both!(run, &name, what, S => Graph::<S>::new(slots, kinds, state), |graph| {
                 Graph::collect(graph, repeats)

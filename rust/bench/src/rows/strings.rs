@@ -56,16 +56,16 @@ fn new<S: Side>(side: &mut S) -> f64 {
 }
 
 pub fn rows(run: &Run) {
-    for strings in [16, 256, 4096] {
+    for (strings, number) in [(16, "16"), (256, "256"), (4096, "4,096")] {
         // The arena has 4,096 slots at most: the few more are then among them.
         let present = strings.min(4096 - NEW);
         let (name, what) = (
-            format!("found, {strings} present"),
+            format!("found, {number} present"),
             "the last of them is asked for",
         );
         both!(run, &name, what, S => with_strings::<S>(present), |side| found(side, present));
         let (name, what) = (
-            format!("new, {strings} present"),
+            format!("new, {number} present"),
             "one that is not there is made",
         );
         both!(run, &name, what, S => with_strings::<S>(present), new);
