@@ -4,24 +4,26 @@ use crate::side::{Side, global, name_gc};
 use oracle::{Phase, TableRef, UdRef, Value};
 use timing::timed;
 
-/// How many userdata there are.
-pub const USERDATA: u32 = 512;
+/// How many are held by one table.
+const PLACES: u32 = 64;
 
 pub struct Due<S> {
     pub side: S,
     meta: TableRef,
+    /// How many userdata there are.
+    count: u32,
 }
 
 impl<S: Side> Due<S> {
     /// No userdata is there yet. The stack has room for what the source pushes for a finalizer.
-    pub fn new() -> Self {
-        let lists = USERDATA / 64;
-        let mut side = S::new([8, 8 + lists, 1, 0, USERDATA, 0, 0, 8, 0, 1]);
+    pub fn new(count: u32) -> Self {
+        let lists = count / PLACES;
+        let mut side = S::new([8, 8 + lists, 1, 0, count, 0, 0, 8, 0, 1]);
         let meta = side.make_table(0, 1);
         let method = side.make_rust_closure(&S::values(&[]));
         side.table_set_node(meta, 0, name_gc(), Value::Function(method));
         side.push(Value::Table(meta));
-        Self { side, meta }
+        Self { side, meta, count }
     }
 
     fn make(&mut self) -> UdRef {
@@ -33,15 +35,15 @@ impl<S: Side> Due<S> {
     /// Takes the finalized ones away, and makes as many that are due.
     fn renew(&mut self) {
         self.side.full();
-        (0..USERDATA).for_each(|_| _ = self.make());
+        (0..self.count).for_each(|_| _ = self.make());
     }
 
-    /// Makes all anew, and holds them by the global table: none is due.
+    /// Makes all, at most 512, and holds them by the eight places of the global table: none is due.
     pub fn hold(&mut self) {
-        for list in 0..USERDATA / 64 {
-            let held = self.side.make_table(64, 0);
+        for list in 0..self.count / PLACES {
+            let held = self.side.make_table(PLACES, 0);
             self.side.table_set(global(), list, Value::Table(held));
-            for i in 0..64 {
+            for i in 0..PLACES {
                 let made = self.make();
                 self.side.table_set(held, i, Value::Userdata(made));
             }
@@ -58,9 +60,9 @@ impl<S: Side> Due<S> {
     pub fn singles(&mut self) -> f64 {
         self.renew();
         self.side.go_to(Phase::Finalize);
-        let time = timed(1, || (0..USERDATA).for_each(|_| self.side.single()));
+        let time = timed(1, || (0..self.count).for_each(|_| self.side.single()));
         assert!(self.side.is_at(Phase::Finalize), "the end is next");
         self.side.go_to(Phase::Pause);
-        time / f64::from(USERDATA)
+        time / f64::from(self.count)
     }
 }

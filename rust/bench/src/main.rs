@@ -31,8 +31,8 @@ mod weak_heap;
 
 use std::process::ExitCode;
 
-const RUNS: usize = 7;
-const ROUNDS: usize = 15;
+const RUNS: usize = 11;
+const ROUNDS: usize = 21;
 
 /// Makes the runs and writes the page.
 fn whole(count: usize, rounds: usize) -> Result<(), String> {

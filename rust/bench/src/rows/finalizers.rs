@@ -5,8 +5,8 @@ use crate::run::{Run, both};
 use crate::side::Side;
 use timing::timed;
 
-fn held<S: Side>() -> Due<S> {
-    let mut due = Due::new();
+fn held<S: Side>(count: u32) -> Due<S> {
+    let mut due = Due::new(count);
     due.hold();
     due
 }
@@ -16,9 +16,12 @@ fn full<S: Side>(due: &mut Due<S>) -> f64 {
 }
 
 pub fn rows(run: &Run) {
-    let what = "full_gc of 512 userdata with __gc that are dead: queued, handed out and finished one by \
-                one";
-    both!(run, "512 userdata, all due", what, S => Due::<S>::new(), Due::full);
-    let what = "full_gc of 512 such userdata that are live: each is looked at, none is due";
-    both!(run, "512 userdata, none due", what, S => held::<S>(), full);
+    let what = "full_gc of userdata with __gc that are dead: queued by their creation numbers, handed \
+                out and finished one by one";
+    for (count, number) in [(64, "64"), (512, "512"), (4096, "4,096")] {
+        let name = format!("{number} userdata, all due");
+        both!(run, &name, what, S => Due::<S>::new(count), Due::full);
+    }
+    let what = "full_gc of such userdata that are live: each is looked at, none is due";
+    both!(run, "512 userdata, none due", what, S => held::<S>(512), full);
 }

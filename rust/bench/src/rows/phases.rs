@@ -171,7 +171,7 @@ pub fn rows(run: &Run) {
     both!(run, "Sweep, dead", what, S => tables::<S>(State::Dead), sweep_tables);
     let what = "a finalizer handed out and finished with success: two calls of ours, one of the \
                 source, whose method is empty";
-    both!(run, "Finalize: one finalizer", what, S => Due::<S>::new(), Due::singles);
+    both!(run, "Finalize: one finalizer", what, S => Due::<S>::new(512), Due::singles);
     let what = "the step at Finalize with an empty queue, which ends the cycle";
     both!(run, "Finalize: the end", what, S => herd::<S>(), end);
 }
