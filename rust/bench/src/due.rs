@@ -15,15 +15,19 @@ pub struct Due<S> {
 }
 
 impl<S: Side> Due<S> {
-    /// No userdata is there yet. The stack has room for what the source pushes for a finalizer.
+    /// No userdata is there, but each slot had one: from now on those made later get lower slots.
     pub fn new(count: u32) -> Self {
         let lists = count / PLACES;
+        // The stack has room for what the source pushes for a finalizer.
         let mut side = S::new([8, 8 + lists, 1, 0, count, 0, 0, 8, 0, 1]);
         let meta = side.make_table(0, 1);
         let method = side.make_rust_closure(&S::values(&[]));
         side.table_set_node(meta, 0, name_gc(), Value::Function(method));
         side.push(Value::Table(meta));
-        Self { side, meta, count }
+        let mut due = Self { side, meta, count };
+        due.full();
+        due.side.full();
+        due
     }
 
     fn make(&mut self) -> UdRef {

@@ -66,7 +66,7 @@ fn asked(words: &[&str]) -> Result<(), String> {
             rows::all(number(rounds)?);
             Ok(())
         }
-        [runs] => whole(number(runs)?, ROUNDS),
+        [runs] if *runs != runs::ONCE => whole(number(runs)?, ROUNDS),
         [runs, rounds] => whole(number(runs)?, number(rounds)?),
         _ => Err("usage: bench [RUNS [ROUNDS]], or bench once ROUNDS".into()),
     }

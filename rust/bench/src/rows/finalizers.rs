@@ -16,8 +16,8 @@ fn full<S: Side>(due: &mut Due<S>) -> f64 {
 }
 
 pub fn rows(run: &Run) {
-    let what = "full_gc of userdata with __gc that are dead: queued by their creation numbers, handed \
-                out and finished one by one";
+    let what = "full_gc of userdata with __gc that are dead: queued by their creation numbers \
+                (those made later lie in lower slots), handed out and finished one by one";
     for (count, number) in [(64, "64"), (512, "512"), (4096, "4,096")] {
         let name = format!("{number} userdata, all due");
         both!(run, &name, what, S => Due::<S>::new(count), Due::full);

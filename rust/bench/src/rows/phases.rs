@@ -47,11 +47,11 @@ fn herded<S: Side>(herd: &mut [S], before: impl Fn(&mut S), after: Phase) -> f64
     sum / f64::from(HERD * REPEATS)
 }
 
-fn roots<S: Side>(herd: &mut Vec<S>) -> f64 {
+fn roots<S: Side>(herd: &mut [S]) -> f64 {
     herded(herd, |side| side.go_to(Phase::Pause), Phase::Propagate)
 }
 
-fn end<S: Side>(herd: &mut Vec<S>) -> f64 {
+fn end<S: Side>(herd: &mut [S]) -> f64 {
     herded(herd, |side| side.go_to(Phase::Finalize), Phase::Pause)
 }
 
