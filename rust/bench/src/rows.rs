@@ -1,6 +1,7 @@
 //! The rows, by groups.
 
 mod arena;
+mod budgeted;
 mod cheap;
 mod finalizers;
 mod fixed;
@@ -23,7 +24,7 @@ pub fn all(rounds: usize) {
         (&group::MAKING, making::rows),
         (&group::STRINGS, strings::rows),
         (&group::PHASES, phases::rows),
-        (&group::BUDGETED, phases::budgeted),
+        (&group::BUDGETED, budgeted::rows),
         (&group::TABLES, full::tables),
         (&group::FULL, full::rows),
         (&group::WEAK, weak::rows),

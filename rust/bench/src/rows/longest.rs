@@ -1,7 +1,7 @@
 //! Every step of whole cycles timed by itself: what the planner who gives the collector its time sees.
 
 use crate::graph::{Graph, Kinds, State};
-use crate::rows::phases::BUDGET;
+use crate::rows::budgeted::BUDGET;
 use crate::run::Run;
 use crate::side::{Ours, Side, Source};
 use oracle::Phase;
