@@ -4,6 +4,7 @@
 
 #![allow(clippy::missing_errors_doc, clippy::needless_pass_by_value)]
 
+mod bare;
 mod collect;
 mod main_thread;
 mod make;

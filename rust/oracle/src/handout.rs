@@ -81,7 +81,9 @@ pub(crate) fn collect<R>(
 /// The source calls a finalizer: its method and userdata stand at `func` of the main stack.
 pub(crate) fn hand(state: &mut LuaState, func: usize) -> LuaResult<()> {
     let Some(mut kept) = DESK.take() else {
-        return Err(runtime_error("a finalizer outside of a collector call"));
+        // A bare step: nobody is asked, and the two values are popped as after any call.
+        state.top = func;
+        return Ok(());
     };
     let (method, given) = (
         state.stack_get(func),

@@ -3,6 +3,7 @@
 mod common;
 
 use common::lines;
+use oracle::{Oracle, Sizes, Snapshot, StrRef, Value};
 
 /// A userdata whose metatable has a `__gc` entry, and nothing that reaches it.
 const DUE: &str = "\
@@ -119,4 +120,49 @@ fn several_are_handed_out_in_one_call() {
     let all = after("make_userdata\nud_set_meta d1.0 t2.0\nfull_gc\nfinish ok\npop\nfinish ok");
     let second = HANDED.replace("d0", "d1");
     assert_eq!(all, ["d1.0", "done", &second, HANDED, "refused 5", "ended"]);
+}
+
+/// A heap with a userdata that is due, and room on its stack.
+fn due() -> Oracle {
+    let sizes = Sizes::from([16, 16, 4, 4, 16, 4, 4, 2, 4, 2]);
+    let mut heap = Oracle::new(sizes).expect("sizes in range");
+    let meta = heap.make_table(0, 2).expect("room");
+    let name = Value::Str(StrRef::new(1, 0));
+    heap.table_set_node(meta, 1, name, Value::Bool(true))
+        .expect("a node");
+    let userdata = heap.make_userdata().expect("room");
+    heap.ud_set_meta(userdata, Some(meta)).expect("both named");
+    heap
+}
+
+/// The whole heap but the main record: a bare step leaves what it pushed above the top.
+fn but_main(heap: &Oracle, main: &Oracle) -> Snapshot {
+    let main = main.snapshot().main;
+    Snapshot {
+        main,
+        ..heap.snapshot()
+    }
+}
+
+#[test]
+fn bare_steps_do_what_the_others_do() {
+    let steps: [(fn(&mut Oracle), fn(&mut Oracle)); 3] = [
+        (|heap| _ = heap.full_gc(), Oracle::bare_full),
+        (
+            |heap| _ = heap.gc_step(9000),
+            |heap| _ = heap.bare_step(9000),
+        ),
+        (
+            |heap| (0..20).for_each(|_| _ = heap.gc_singlestep()),
+            |heap| (0..20).for_each(|_| _ = heap.bare_singlestep()),
+        ),
+    ];
+    for (step, bare) in steps {
+        let (mut one, mut other) = (due(), due());
+        step(&mut one);
+        bare(&mut other);
+        assert_eq!(one.snapshot(), but_main(&other, &one));
+        let finalized = one.snapshot().userdata.list[0].record.clone();
+        assert!(finalized.is_some_and(|d| d.finalized), "it was due");
+    }
 }
