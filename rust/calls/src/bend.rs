@@ -8,7 +8,7 @@ use oracle::{Answer, Command, Driver, Oracle};
 const SHARE: u32 = 5;
 
 /// Numbers next to the ends of sizes, counts and words.
-const EDGES: &[u32] = &[
+pub const EDGES: &[u32] = &[
     0,
     1,
     2,
