@@ -1,5 +1,5 @@
 // The main record and the other roots (document 01, 'Followed links'): one function for each field, to read it and to write
-// it. The prototypes stand in a module of their own. A `Lay` says where the parts past the header lie; contents are taken as
+// it. The prototypes stand in a module of their own. The ten sizes say where the parts past the header lie; contents are taken as
 // they are, and a count never reads past its part.
 use layout::Sizes;
 use value::StrOr;
