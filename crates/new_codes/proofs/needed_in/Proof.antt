@@ -19,16 +19,16 @@ unfolding neededIn neededOf
 returns c = rw (← c .before .before .before .before .plan .ensures .0, c .before .before .z .given .1) (lt-yes _ _ _ _ _ (c .if1 .taken) refl)
 
 words-of-requires : tie.Need-words-of-requires
-words-of-requires c κs = rw (@z .given .1) at (@plan .ensures .1)
+words-of-requires c κs = rw (c .before .before .z .given .1) at (c .before .before .before .before .plan .ensures .1)
 
 bytes-of-requires : tie.Need-bytes-of-requires
-bytes-of-requires c κs = rw (@z .given .1) at (@plan .ensures .1)
+bytes-of-requires c κs = rw (c .before .before .before .z .given .1) at (c .before .before .before .before .before .plan .ensures .1)
 
 cast-put-two : tie.Need-cast-put-two
-cast-put-two c = omega (arith, @words-of .ensures, planned-small _ _ (sym (@z .given .1) ∙ @plan .ensures .0))
+cast-put-two c = omega (arith, c .before .before .words-of .ensures, planned-small _ _ (sym (c .before .before .before .before .before .z .given .1) ∙ c .before .before .before .before .before .before .before .plan .ensures .0))
 
 cast-put-two-2 : tie.Need-cast-put-two-2
-cast-put-two-2 c = omega (arith, @bytes-of .ensures, planned-small _ _ (sym (@z .given .1) ∙ @plan .ensures .0))
+cast-put-two-2 c = omega (arith, c .before .bytes-of .ensures, planned-small _ _ (sym (c .before .before .before .before .before .z .given .1) ∙ c .before .before .before .before .before .before .before .plan .ensures .0))
 
 put-two-requires : tie.Need-put-two-requires
 put-two-requires c κs = search needs
@@ -41,7 +41,7 @@ same-length c = search needs
 
 returns-2 : tie.Need-returns-2
 unfolding neededIn neededOf
-returns-2 c = rw (← @plan .ensures .0, @z .given .1, ← @words-of .ensures, ← @bytes-of .ensures) (lt-no _ _ _ _ _ (@if1 .left) (cc))
+returns-2 c = rw (← c .before .before .before .before .before .before .before .before .before .before .plan .ensures .0, c .before .before .before .before .before .before .before .before .z .given .1, ← c .before .before .before .before .before .words-of .ensures, ← c .before .before .before .before .bytes-of .ensures) (lt-no _ _ _ _ _ (c .before .before .before .before .before .before .if1 .left) (cc))
 
 returns-3 : tie.Need-returns-3
 unfolding neededIn neededOf
