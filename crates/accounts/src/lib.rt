@@ -1,5 +1,7 @@
 // What the header keeps of pacing (document 01, 'Steps and pacing'): total, estimate, threshold and debt, and a finalizer that is
 // out with what it interrupted. Each function is a few words read and written by the numbers of crates/pacing.
+#![tactic(auto)]
+
 ghost use Rattle.std.specs.Prelude.{◌≡◌, ◌+◌, ◌^◌, ◌≤◌, ◌<◌, max, length};
 ghost use Rattle.accounts.specs.Accounts.{count_at, memory_of, update_threshold, step_ends, handed, taken_back, after_cost, grown, within_limit, limited};
 

@@ -1,6 +1,8 @@
 // One arena of slots in the lent words (document 01, 'Slots and colours'): generations, colours, the chain of free slots,
 // taking and freeing a slot, and the sweep. What the six arenas share is here, once, over the kind: an `Arena` says where
 // the parts of one lie. All contents of the words are taken as they are; only the places must lie within the buffers.
+#![tactic(auto)]
+
 ghost use Rattle.std.specs.Prelude.{◌≡◌, ℕ, ◌+◌, ◌*◌, ◌<◌, ◌≤◌, max, length};
 ghost use Rattle.base.specs.Heap.{heap};
 ghost use Rattle.arena.specs.Slots.{Room, Wide, colour, set_colour, gen, set_gen, link, set_link, extent, set_extent, head, set_head, set_fresh, count, used, named, Within, tallied, occupied, clear_body, clear_text, aged, pushed, count_less, free_slot, freed, filled, no_room, take_head, take_fresh, take_slot, Taken, visit, sweep_partial};

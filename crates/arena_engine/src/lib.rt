@@ -1,5 +1,7 @@
 // One arena for Rust or C to link: numbers and slices only. The arena lies from word 0 on: head, fresh index, count, then
 // colours, generations, links, extents, then the bodies. Buffers that are too short for it are refused with 1.
+#![tactic(auto)]
+
 ghost use Rattle.std.specs.Prelude.{◌≡◌, length};
 ghost use Rattle.base.specs.Heap.{heap};
 ghost use Rattle.arena_engine.specs.Exports.{placed, Places, take_on, free_on, paint_on, sweep_on};

@@ -1,6 +1,8 @@
 // Replays a fixed list of arena operations and prints each answer with the state after it. The answers in `stdout` were
 // given by the source's own arena (rust/slots, `list`), so that this comparison needs no Rust at hand.
 // A line is `take COLOUR`, `free INDEX GENERATION`, `paint INDEX GENERATION COLOUR` or `sweep DEAD WHITE START MOST`.
+#![tactic(auto)]
+
 ghost use Rattle.std.specs.Prelude.{◌≤◌, ◌<◌, length};
 
 use arena::{Arena, Freed, Named, Took};

@@ -1,5 +1,7 @@
 // The atomic phase (document 01; the source's atomic): the main thread once more, grayagain in order, all gray; separation,
 // with what the due userdata reach; the white flips; weak tables; then the sweep begins.
+#![tactic(auto)]
+
 ghost use Rattle.std.specs.Prelude.{◌≡◌, ◌+◌, ◌≤◌, ◌<◌, length};
 ghost use Rattle.layout.specs.Layout.{lay_of};
 ghost use Rattle.laid.specs.Laid.{Laid};

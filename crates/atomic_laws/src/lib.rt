@@ -1,4 +1,6 @@
 // Laws of the atomic phase: all of them stand in specs/. A crate has a function, so here is one.
+#![tactic(auto)]
+
 ghost use Rattle.std.specs.Prelude.{◌≡◌};
 
 // The number that it is given.

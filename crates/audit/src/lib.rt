@@ -1,5 +1,7 @@
 // The audit (document 01, at the end of 'Steps and pacing'): a heap between collections, looked over. It gives 1 and 8 first,
 // says yes or no, and changes nothing.
+#![tactic(auto)]
+
 ghost use Rattle.std.specs.Prelude.{◌≡◌, ◌≤◌, ◌<◌, length};
 ghost use Rattle.layout.specs.Layout.{lay_of};
 ghost use Rattle.base.specs.Heap.{heap};

@@ -1,5 +1,7 @@
 // The audit for Rust or C to link: an exported function on slices only. The answer is a code, 0 or the number of a refusal, and
 // one word lent for the rest: 1 for yes, 0 for no.
+#![tactic(auto)]
+
 ghost use Rattle.std.specs.Prelude.{◌≡◌, ◌≤◌, ◌<◌, length};
 ghost use Rattle.base.specs.Heap.{heap};
 ghost use Rattle.audit_engine.specs.Exports.{told, on_audit};

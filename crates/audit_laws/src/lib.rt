@@ -1,4 +1,6 @@
 // What the audit says, in document 01's words: all of it stands in specs/. A crate has a function, so here is one.
+#![tactic(auto)]
+
 ghost use Rattle.std.specs.Prelude.{◌≡◌};
 
 // The number that it is given.

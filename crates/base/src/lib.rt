@@ -1,4 +1,6 @@
 // The leaves that every crate cites: a word or two read and written, sums and counts that stop at their ends.
+#![tactic(auto)]
+
 ghost use Rattle.std.specs.Prelude.{◌≡◌, ℕ, ◌+◌, ◌-◌, ◌*◌, ◌/◌, ◌%◌, ◌^◌, ◌≤◌, ◌<◌, min, length};
 ghost use Rattle.base.specs.Words.{at, put, clear, join, get64, put64, add_sat, more, bounded};
 

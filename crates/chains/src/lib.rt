@@ -1,5 +1,7 @@
 // The chain of free slots of one arena, looked over (document 01, the audit): it holds every free slot below the fresh index
 // once. The cost is linear in the slots.
+#![tactic(auto)]
+
 ghost use Rattle.std.specs.Prelude.{◌≡◌};
 ghost use Rattle.arena.specs.Slots.{Room};
 ghost use Rattle.chains.specs.Chains.{free_count, names_free, chain_holds};

@@ -1,4 +1,6 @@
 // Document 01's starred examples: all of them stand in specs/. A crate has a function, so here is one.
+#![tactic(auto)]
+
 ghost use Rattle.std.specs.Prelude.{◌≡◌};
 
 // The number that it is given.

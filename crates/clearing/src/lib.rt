@@ -1,5 +1,7 @@
 // Weak tables in the atomic phase (document 01; the source's clear_weak_tables), after the white has flipped: strings that a
 // listed table holds take the new white; then entries die. A dead node loses its value and keeps its key.
+#![tactic(auto)]
+
 ghost use Rattle.std.specs.Prelude.{◌≡◌, ◌+◌, ◌*◌, ◌≤◌, ◌<◌, length};
 ghost use Rattle.layout.specs.Layout.{lay_of};
 ghost use Rattle.laid.specs.Laid.{Laid};

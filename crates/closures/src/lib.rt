@@ -1,5 +1,7 @@
 // A new closure (document 01, 'Sizes'): of a prototype with upvalues, or a Rust closure with values of its own. What it is
 // made of was tested before; 6 and 3 are left, and damage, which is marked.
+#![tactic(auto)]
+
 ghost use Rattle.std.specs.Prelude.{◌≡◌, ◌+◌, ◌*◌, ◌^◌, ◌≤◌, ◌<◌, length};
 ghost use Rattle.layout.specs.Layout.{lay_of};
 ghost use Rattle.laid.specs.Laid.{Laid};

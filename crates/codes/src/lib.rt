@@ -1,5 +1,7 @@
 // The reads in numbers, for Rust or C: an answer as a code and four words. A number that asks nothing is refused with 4, after 1
 // and 8.
+#![tactic(auto)]
+
 ghost use Rattle.std.specs.Prelude.{◌≡◌};
 ghost use Rattle.base.specs.Heap.{heap};
 ghost use Rattle.reads.specs.declared.Read.TheVariants as read;

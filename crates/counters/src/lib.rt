@@ -1,5 +1,7 @@
 // The counters total, peak and limit (document 01, 'What must change shape'): a small struct that is lent to `track_alloc`, a
 // thin function over `tracked`, which takes it by value. `track` does it for the header's words. No allocation changes the limit.
+#![tactic(auto)]
+
 ghost use Rattle.std.specs.Prelude.{◌≡◌, ◌+◌, ◌≤◌, min, max, length};
 ghost use Rattle.counters.specs.Count.{tracked, counters_at, put_counters, would_pass, track};
 

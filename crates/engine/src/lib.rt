@@ -1,5 +1,7 @@
 // The heap for Rust or C to link: exported functions on numbers and slices only. An answer is a code, 0 or the number of a
 // refusal, and words lent for the rest, so that nothing is passed that the two sides could lay out differently.
+#![tactic(auto)]
+
 mod header;
 mod objects;
 

@@ -1,4 +1,6 @@
 // What a call has once test 1 let it in: specs/Entered.antt. A crate has a function, so here is one.
+#![tactic(auto)]
+
 ghost use Rattle.std.specs.Prelude.{◌≡◌};
 
 // The number that it is given.

@@ -1,5 +1,7 @@
 // The calls that change the frames (document 01, module 5). Each gives 1 and 8 first, then 4, and changes nothing where it
 // refuses.
+#![tactic(auto)]
+
 ghost use Rattle.std.specs.Prelude.{◌≡◌, ◌≤◌, length};
 ghost use Rattle.layout.specs.Layout.{lay_of};
 ghost use Rattle.base.specs.Heap.{heap};

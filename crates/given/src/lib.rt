@@ -1,5 +1,7 @@
 // What a call is given to store must name what it says (document 01, row 2), and what a call that makes or changes something
 // answers. One place tests a handle, one a value.
+#![tactic(auto)]
+
 ghost use Rattle.std.specs.Prelude.{◌≡◌, ◌≤◌, length};
 ghost use Rattle.layout.specs.Layout.{lay_of};
 ghost use Rattle.arena.specs.Slots.{Room};

@@ -1,4 +1,6 @@
 // A small heap to which the theorem on what is freed is applied: all of them stand in specs/. A crate has a function, so here is one.
+#![tactic(auto)]
+
 ghost use Rattle.std.specs.Prelude.{◌≡◌};
 
 // The number that it is given.

@@ -1,5 +1,7 @@
 // Makes two heaps in buffers that held odd words, writes the header of each in words a person reads, and says whether the
 // rest of the buffers is as it was.
+#![tactic(auto)]
+
 ghost use Rattle.std.specs.Prelude.{◌+◌, ◌≤◌, ◌<◌, length};
 
 use layout::{Needs, Sizes};

@@ -1,5 +1,7 @@
 // Buffers and sizes at the edge of what a new heap takes: each length of the words and of the bytes around the needed one,
 // and each size at the ends of its range and one past them. Writes what making a heap answers.
+#![tactic(auto)]
+
 ghost use Rattle.std.specs.Prelude.{◌≤◌, ◌<◌, length};
 
 use layout::Sizes;

@@ -1,6 +1,8 @@
 // The handles in the records of occupied slots (document 01, the audit): each names an occupied slot. One function for each
 // kind says which handles its record holds; whether one names a slot is asked in one place, `given::is_named`. Nothing is
 // changed, and each slot is looked at once.
+#![tactic(auto)]
+
 ghost use Rattle.std.specs.Prelude.{◌≡◌, ◌+◌, ◌*◌, ◌≤◌, ◌<◌, length};
 ghost use Rattle.layout.specs.Layout.{lay_of};
 ghost use Rattle.laid.specs.Laid.{Laid};

@@ -1,5 +1,7 @@
 // The call that gives a thread its hook function (document 01, module 5), with the forward barrier: 1 and 8 first, then 2 for a
 // handle that names no thread, then 2 for a value that names nothing; 8 also where the barrier set the damage mark.
+#![tactic(auto)]
+
 ghost use Rattle.std.specs.Prelude.{◌≡◌, ◌+◌, ◌≤◌, length};
 ghost use Rattle.layout.specs.Layout.{lay_of};
 ghost use Rattle.base.specs.Heap.{heap};

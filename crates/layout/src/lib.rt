@@ -1,4 +1,6 @@
 // Where everything lies in the two lent buffers (document 01, 'Sizes').
+#![tactic(auto)]
+
 use arena::Arena;
 
 mod places;

@@ -1,5 +1,7 @@
 // Buffers and headers of the smallest heap at the edge of what test 1 accepts: every length of the words and of the bytes,
 // and each field of the header at the ends of its range and one past them. Writes what `enter` answers.
+#![tactic(auto)]
+
 ghost use Rattle.std.specs.Prelude.{◌≤◌, ◌<◌, length};
 
 use layout::Opened;

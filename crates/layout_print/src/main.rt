@@ -1,5 +1,7 @@
 // Writes where everything lies in the words, for the smallest heap, heapscript's and the largest: the header once, then
 // for each heap every part by name, and the totals.
+#![tactic(auto)]
+
 use arena::Arena;
 use layout::{Lay, List, Opened, Part, Sizes};
 

@@ -1,4 +1,6 @@
 // What the programs that read lines of text share: the number at or past a place, and the place past a line's end.
+#![tactic(auto)]
+
 ghost use Rattle.std.specs.Prelude.{◌≡◌, ◌≤◌, ◌<◌, length};
 
 // A number, and the place past it.

@@ -1,4 +1,6 @@
 // The links that are followed stand in specs/Links.antt. A crate has a function, so here is one.
+#![tactic(auto)]
+
 ghost use Rattle.std.specs.Prelude.{◌≡◌};
 
 // The number that it is given.

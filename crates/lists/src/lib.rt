@@ -1,5 +1,7 @@
 // The four working lists, gray, grayagain, weak and the queue (document 01, 'Sizes' and the damage rule): each is a counted
 // part of the words. A `List` says where one lies, so what they share is here once.
+#![tactic(auto)]
+
 ghost use Rattle.std.specs.Prelude.{◌≡◌, ◌+◌, ◌*◌, ◌≤◌, ◌<◌, length};
 ghost use Rattle.value.specs.Values.{put3};
 ghost use Rattle.lists.specs.Lists.{RoomFor, kind_of, index_of, generation_of, item_of, item_in, put_item, length_of, set_length, place, item_at, stored, push, taken, pop, cleared};

@@ -1,5 +1,7 @@
 // The calls that change the main open list, the error value and the hook function (document 01, module 5). Each gives 1 and 8
 // first, then 4 and 2 as they apply, and changes nothing where it refuses.
+#![tactic(auto)]
+
 ghost use Rattle.std.specs.Prelude.{◌≡◌};
 ghost use Rattle.base.specs.Heap.{heap};
 ghost use Rattle.main_calls.specs.MainCalls.{open_push, open_cut, set_error, set_hook};

@@ -1,5 +1,7 @@
 // The calls on the main record and the settings, for Rust or C to link: exported functions on numbers and slices only. The answer
 // is a code, 0 or the number of a refusal, and words lent for the rest: a popped value's three, a setting's two, the value before.
+#![tactic(auto)]
+
 ghost use Rattle.std.specs.Prelude.{◌≡◌, ◌≤◌, length};
 ghost use Rattle.base.specs.Heap.{heap};
 ghost use Rattle.value.specs.Values.{value_of};

@@ -1,6 +1,8 @@
 // The main record and the other roots (document 01, 'Followed links'): one function for each field, to read it and to write
 // it. The prototypes stand in a module of their own. The ten sizes say where the parts past the header lie; contents are taken as
 // they are, and a count never reads past its part.
+#![tactic(auto)]
+
 use layout::Sizes;
 use value::{StrOr, TableOr, UpvalRef, Value};
 

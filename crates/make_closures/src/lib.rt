@@ -1,5 +1,7 @@
 // The calls that make a closure (document 01, 'Sizes' and 'Refusal numbers'). Each gives 1 and 8 first, then 4, 2, 6 and 3, and
 // changes nothing that way; damage found on the way is marked, and is 8. A closure never changes once made.
+#![tactic(auto)]
+
 ghost use Rattle.std.specs.Prelude.{◌≡◌, ◌≤◌, ◌<◌, length};
 ghost use Rattle.layout.specs.Layout.{lay_of};
 ghost use Rattle.base.specs.Heap.{heap};

@@ -1,4 +1,6 @@
 // The calls that make, in numbers: lists of values, three words each, and how what was made is told.
+#![tactic(auto)]
+
 ghost use Rattle.std.specs.Prelude.{◌≡◌, ◌≤◌, length};
 ghost use Rattle.make_codes.specs.Codes.{are_tags, made_told};
 

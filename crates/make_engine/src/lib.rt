@@ -1,6 +1,8 @@
 // The calls that make, for Rust or C to link: exported functions on numbers and slices only. Values in a list take three words each,
 // handles of upvalues two, numbers of prototypes one. The answer is a code, 0 or the number of a refusal, and two words lent for
 // the handle that was made, index and generation, or the number of a prototype and 0.
+#![tactic(auto)]
+
 ghost use Rattle.std.specs.Prelude.{◌≡◌, ◌≤◌, length};
 ghost use Rattle.base.specs.Heap.{heap};
 ghost use Rattle.value.specs.Values.{value_of};

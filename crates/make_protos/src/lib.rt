@@ -1,5 +1,7 @@
 // The call that makes a prototype (document 01, 'Sizes' and 'Refusal numbers'): it is made in one call and never changed. It
 // gives 1 and 8 first, then 4, 2 and 3, and changes nothing that way.
+#![tactic(auto)]
+
 ghost use Rattle.std.specs.Prelude.{◌≡◌, ◌*◌, ◌/◌, ◌≤◌, ◌<◌, length};
 ghost use Rattle.layout.specs.Layout.{lay_of};
 ghost use Rattle.base.specs.Heap.{heap};

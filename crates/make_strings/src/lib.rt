@@ -1,5 +1,7 @@
 // The call that makes a string (document 01, 'Sizes' and 'Refusal numbers'): found by its bytes, or new. It gives 1 and 8
 // first, then 4; a string already present answers its handle, never 6 or 3; a new one gives 6, then 3.
+#![tactic(auto)]
+
 ghost use Rattle.std.specs.Prelude.{◌≡◌, ◌*◌, ◌+◌, ◌≤◌, ◌<◌, length};
 ghost use Rattle.layout.specs.Layout.{lay_of};
 ghost use Rattle.base.specs.Heap.{heap};

@@ -1,5 +1,7 @@
 // The calls that make an upvalue or a thread (document 01, 'Sizes'). Each gives 1 and 8 first, then the refusals of its row in
 // their order, and changes nothing that way; damage found on the way is marked, and is 8.
+#![tactic(auto)]
+
 ghost use Rattle.std.specs.Prelude.{◌≡◌, ◌≤◌, length};
 ghost use Rattle.layout.specs.Layout.{lay_of};
 ghost use Rattle.base.specs.Heap.{heap};

@@ -1,6 +1,8 @@
 // What all calls that make an object share (document 01, 'Refusal numbers', rows 6 and 3, and the damage rule): the tracked
 // total would pass 2^31 - 1, every slot is occupied, a head or fresh index names no free slot; else a slot in the current
 // white, a record of zeroed words, and the total with it.
+#![tactic(auto)]
+
 ghost use Rattle.std.specs.Prelude.{◌≡◌, ◌+◌, ◌*◌, ◌≤◌, ◌<◌, length};
 ghost use Rattle.arena.specs.Slots.{Room};
 ghost use Rattle.record.specs.Fields.{body_at};

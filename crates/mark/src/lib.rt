@@ -1,6 +1,8 @@
 // Marking (document 01, 'Followed links'): what is white becomes gray and is listed, or becomes black at once. A string has
 // no links and is black; a table, closure or thread is gray until it is traversed; a userdata or upvalue is black and its
 // links are marked with it. A handle that names no occupied slot has no colour, so nothing is marked by it.
+#![tactic(auto)]
+
 ghost use Rattle.std.specs.Prelude.{◌≡◌, ◌+◌, ◌*◌, ◌≤◌, ◌<◌, length};
 ghost use Rattle.layout.specs.Layout.{lay_of};
 ghost use Rattle.arena.specs.Slots.{Room};

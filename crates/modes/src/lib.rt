@@ -1,5 +1,7 @@
 // Metafields (document 01, 'Followed links'): a key looked up in node order, by handle; the weak mode that a metatable gives
 // by `__mode`, and whether it has a `__gc`. Nothing is changed.
+#![tactic(auto)]
+
 ghost use Rattle.std.specs.Prelude.{◌≡◌, ◌+◌, ◌≤◌, length};
 ghost use Rattle.layout.specs.Layout.{lay_of};
 ghost use Rattle.laid.specs.Laid.{Laid};

@@ -1,4 +1,6 @@
 // What a new heap needs, and making it, in numbers: the sizes are ten words, an answer is a code, 0 or the number of a refusal.
+#![tactic(auto)]
+
 ghost use Rattle.std.specs.Prelude.{◌≡◌, ◌<◌, length};
 ghost use Rattle.base.specs.Words.{at};
 ghost use Rattle.base.specs.Heap.{heap};

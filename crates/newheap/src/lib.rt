@@ -1,6 +1,8 @@
 // A new heap (document 01, 'Sizes'): one call makes it in two lent buffers with chosen sizes. It tests the sizes (4), then
 // the lengths (1), nothing else; it zeroes what the heap needs and writes what is not 0. The rest of longer buffers is
 // untouched.
+#![tactic(auto)]
+
 ghost use Rattle.std.specs.Prelude.{◌≡◌, ℕ, ◌+◌, ◌*◌, ◌≤◌, ◌<◌, length};
 ghost use Rattle.base.specs.Words.{put};
 ghost use Rattle.base.specs.Heap.{heap};

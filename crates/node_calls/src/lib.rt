@@ -1,5 +1,7 @@
 // The call that stores a key and its value in a node of a table (document 01, module 5). It gives 1 and 8 first, then 4, then 2,
 // and changes nothing where it refuses. The backward barrier follows the store; where it set the damage mark the answer is 8.
+#![tactic(auto)]
+
 ghost use Rattle.std.specs.Prelude.{◌≡◌, ◌+◌, ◌≤◌, ◌<◌, length};
 ghost use Rattle.layout.specs.Layout.{lay_of};
 ghost use Rattle.base.specs.Heap.{heap};

@@ -1,6 +1,8 @@
 // The calls that give a userdata a metatable or an environment, or a type its metatable, or take it away (document 01, module 5).
 // Each gives 1 and 8 first, then 4, then 2, and changes nothing where it refuses. The forward barrier follows the store of a
 // table; where it set the damage mark the answer is 8.
+#![tactic(auto)]
+
 ghost use Rattle.std.specs.Prelude.{◌≡◌, ◌+◌, ◌≤◌, length};
 ghost use Rattle.layout.specs.Layout.{lay_of};
 ghost use Rattle.base.specs.Heap.{heap};

@@ -1,4 +1,6 @@
 // Where the stacks and lists of the main record and of a thread lie, and a thread's record by its handle.
+#![tactic(auto)]
+
 ghost use Rattle.std.specs.Prelude.{◌≡◌, ◌+◌, ◌≤◌, length};
 ghost use Rattle.layout.specs.Layout.{lay_of};
 ghost use Rattle.laid.specs.Laid.{Laid};

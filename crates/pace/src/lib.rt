@@ -1,6 +1,8 @@
 // Budgeted and full collection with hand-out and finish (document 01, 'Steps and pacing'; the source's gc_step, full_gc,
 // gc_step_auto, gc_check, update_threshold). A finalizer that is handed out interrupts its call: the words keep what was
 // interrupted, the userdata and the remaining budget, and `finish` goes on with exactly that.
+#![tactic(auto)]
+
 ghost use Rattle.std.specs.Prelude.{◌≡◌, ◌≤◌, ◌<◌, length};
 ghost use Rattle.layout.specs.Layout.{lay_of};
 ghost use Rattle.base.specs.Heap.{heap};

@@ -1,5 +1,7 @@
 // Pacing by numbers (document 01, 'Steps and pacing'): budgets, debt, thresholds, estimate and total, each a small function of
 // numbers by value. Sums stop at the ends of 64 bits, counts at 0.
+#![tactic(auto)]
+
 ghost use Rattle.std.specs.Prelude.{◌≡◌, ℕ, ◌+◌, ◌-◌, ◌*◌, ◌/◌, ◌^◌, ◌≤◌, ◌<◌};
 ghost use Rattle.pacing.specs.Pacing.{budget_of, automatic_budget, grown_debt, cycle_threshold, finish_threshold, step_threshold, debt_after, lowered, less, memory};
 

@@ -1,5 +1,7 @@
 // Public reads of what stands past the header's counters: the main record, the working lists, and the slots of each arena.
 // Each gives 1 and 8 first, then 4, and changes nothing.
+#![tactic(auto)]
+
 ghost use Rattle.std.specs.Prelude.{◌≡◌, ◌+◌, ◌*◌, ◌≤◌, ◌<◌, length};
 ghost use Rattle.layout.specs.Sizes.{SizesOk};
 ghost use Rattle.layout.specs.Layout.{lay_of};

@@ -1,4 +1,6 @@
 // What the programs that show a heap share: a text, a number between two texts, a phase's name, and the sizes of two heaps.
+#![tactic(auto)]
+
 use layout::Sizes;
 use libc::STDOUT_FILENO;
 

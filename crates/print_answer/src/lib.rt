@@ -1,5 +1,7 @@
 // What the programs that make steps share: a value, an item of a list and an answer, in words. A handle is its kind, index
 // and generation.
+#![tactic(auto)]
+
 use accounts::Answer;
 use lists::Item;
 use print::{count, long, say};

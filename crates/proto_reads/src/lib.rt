@@ -1,5 +1,7 @@
 // Public reads of prototypes by number. Each gives 1 and 8 first, then 4 for a number that is not used or an index outside its
 // range, and changes nothing.
+#![tactic(auto)]
+
 ghost use Rattle.std.specs.Prelude.{◌≡◌, ◌<◌, length};
 ghost use Rattle.layout.specs.Layout.{lay_of};
 ghost use Rattle.base.specs.Heap.{heap};

@@ -2,6 +2,8 @@
 // highest down to the lowest. A Lua closure of the highest is on the main stack. Single steps are made until it is traversed:
 // since each number is walked once, that is at once, and the lowest prototype's constant is then black. The stored output is
 // by document 01's costs.
+#![tactic(auto)]
+
 ghost use Rattle.std.specs.Prelude.{◌≤◌, ◌<◌};
 ghost use Rattle.layout.specs.Layout.{lay_of};
 ghost use Rattle.laid.specs.Laid.{Laid};

@@ -1,5 +1,7 @@
 // Public reads of the header: counters, sizes, the finalizer that is out and roots. Each gives 1 and 8 first, then 4, and
 // changes nothing. Beside them what all reads share: what they answer, and what the handle of an object names.
+#![tactic(auto)]
+
 ghost use Rattle.std.specs.Prelude.{◌≡◌, ◌≤◌, ◌<◌, length};
 ghost use Rattle.layout.specs.Sizes.{SizesOk};
 ghost use Rattle.layout.specs.Layout.{lay_of};

@@ -2,6 +2,8 @@
 // read it and to write it, a module for each kind. A record is addressed by the place p of its body. All contents are taken
 // as they are: a size or count outside its range reads as 0, so no call pays for records that it does not touch.
 // Here stands what all kinds share: the place of a body, and a word, a count, a flag or an upvalue's handle at a place.
+#![tactic(auto)]
+
 use arena::Arena;
 use value::UpvalRef;
 

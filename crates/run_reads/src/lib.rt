@@ -1,5 +1,7 @@
 // Public reads of closures, upvalues and threads by handle. Each gives 1 and 8 first, then 2 for a handle that names no
 // occupied slot, then 4 for an index outside its range, and changes nothing.
+#![tactic(auto)]
+
 ghost use Rattle.std.specs.Prelude.{◌≡◌, ◌+◌, ◌≤◌, length};
 ghost use Rattle.base.specs.Heap.{heap};
 ghost use Rattle.run_reads.specs.RunReads.{held_upvalue, held_value, closure_in, read_closure, upvalue_in, read_upvalue, thread_in, read_thread};

@@ -1,4 +1,6 @@
 // What a script's commands (document 01, `heapscript`) make of the heap's answers, and of the made objects that they are given.
+#![tactic(auto)]
+
 ghost use Rattle.std.specs.Prelude.{◌≡◌};
 ghost use Rattle.script_answers.specs.Answers.{of_served, of_got, table_of, meta_of};
 

@@ -1,5 +1,7 @@
 // Bytes kept one after another in lent bytes, as long as there is room: a text that is printed, and a line that is gathered
 // from an input that comes in parts.
+#![tactic(auto)]
+
 ghost use Rattle.std.specs.Prelude.{◌≡◌};
 ghost use Rattle.script_bytes.specs.Bytes.{kept, said, gather};
 

@@ -1,4 +1,6 @@
 // A script's commands that change something (document 01, `heapscript`), by the heap's public calls.
+#![tactic(auto)]
+
 ghost use Rattle.std.specs.Prelude.{◌≡◌};
 ghost use Rattle.base.specs.Heap.{heap};
 ghost use Rattle.script_answers.specs.Answers.{script};

@@ -1,5 +1,7 @@
 // A script's command `collect` (document 01, `heapscript`): a full collection, the finalizers that it hands out printed in lent
 // bytes, and what was freed.
+#![tactic(auto)]
+
 ghost use Rattle.std.specs.Prelude.{◌≡◌};
 ghost use Rattle.base.specs.Heap.{heap};
 ghost use Rattle.script_collect.specs.Collects.{count_in, counts_in, lost, ended, handing, collecting};

@@ -1,4 +1,6 @@
 // The fields of a script's line (document 01, `heapscript`), parted by exactly one space: a command word, or a number.
+#![tactic(auto)]
+
 ghost use Rattle.std.specs.Prelude.{◌≡◌, ◌≤◌, ◌<◌, length};
 ghost use Rattle.script_fields.specs.Fields.{field_end, Within, word_of, other_word, word_at, number_on, number_at};
 

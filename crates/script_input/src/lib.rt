@@ -1,5 +1,7 @@
 // Where the reading of a script stands. Its input comes in parts; a line's bytes are gathered in lent bytes, and lines are
 // numbered from 1, each of them, also the empty ones.
+#![tactic(auto)]
+
 ghost use Rattle.std.specs.Prelude.{◌≡◌, ◌≤◌, ◌<◌, length};
 ghost use Rattle.script_input.specs.Input.{started, renewed, read_on, passed, is_left, Onward};
 

@@ -1,4 +1,6 @@
 // A line of a script (document 01, `heapscript`): the command that its fields make, which a reader reads.
+#![tactic(auto)]
+
 ghost use Rattle.std.specs.Prelude.{◌≡◌, ◌≤◌, length};
 ghost use Rattle.script_fields.specs.Fields.{number_at};
 ghost use Rattle.script_line.specs.Lines.{counted, fourth, third, second, first, numbers_from, text_from, exactly, command_of, parse, TextWithin};

@@ -1,5 +1,7 @@
 // The table of a script's made objects, in lent words: word 0 is how many there are, then three words for each, its value in
 // the order of their numbers from 1. It has room for 4,096, or for fewer where the words are fewer.
+#![tactic(auto)]
+
 ghost use Rattle.std.specs.Prelude.{◌≡◌, ◌≤◌, ◌<◌, length};
 ghost use Rattle.script_made.specs.Objects.{room_of, count_of, object_of, is_full, added};
 

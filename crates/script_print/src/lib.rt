@@ -1,5 +1,7 @@
 // What a script prints (document 01, `heapscript`), into lent bytes from a place on. A byte that finds no room is left out.
 // Each function answers the place past what it printed.
+#![tactic(auto)]
+
 ghost use Rattle.std.specs.Prelude.{◌≡◌, ◌++◌, ◌+◌, ◌-◌, ◌%◌, ◌≤◌, length, take, drop};
 ghost use Rattle.script_bytes.specs.Bytes.{said};
 ghost use Rattle.script_print.specs.Texts.{decimal, field, handle_text, final_line, object_line, three_fields, freed_line, refused_line, outcome_text};

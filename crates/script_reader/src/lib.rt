@@ -1,5 +1,7 @@
 // A reader holds a line's bytes and a position. The functions over it are thin: the work is done on the slice and the number,
 // in script_fields.
+#![tactic(auto)]
+
 ghost use Rattle.std.specs.Prelude.{◌≡◌};
 ghost use Rattle.script_fields.specs.Fields.{word_at, number_at};
 

@@ -1,4 +1,6 @@
 // A line of a script (document 01, `heapscript`): read, obeyed by the heap's public calls, and answered in lent bytes.
+#![tactic(auto)]
+
 ghost use Rattle.std.specs.Prelude.{◌≡◌, ◌≤◌, length};
 ghost use Rattle.base.specs.Heap.{heap};
 ghost use Rattle.script_line.specs.Lines.{TextWithin};

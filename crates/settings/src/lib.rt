@@ -1,5 +1,7 @@
 // The settings: pause, stepmul and limit (document 01, 'Steps and pacing'). Each call gives 1 and 8 first and answers the value
 // before.
+#![tactic(auto)]
+
 ghost use Rattle.std.specs.Prelude.{◌≡◌, ◌≤◌, ◌<◌, length};
 ghost use Rattle.base.specs.Heap.{heap};
 ghost use Rattle.settings.specs.Settings.{set_word, set_pause, set_stepmul, lowered, set_limit_in, set_limit};

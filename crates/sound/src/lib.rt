@@ -1,5 +1,7 @@
 // Lists of values and handles that a call is given, and the constants of a prototype and of all nested ones: each names an
 // occupied slot of its kind (document 01, row 2). Nothing is changed.
+#![tactic(auto)]
+
 ghost use Rattle.std.specs.Prelude.{◌≡◌, ◌+◌, ◌*◌, ◌≤◌, ◌<◌, length};
 ghost use Rattle.layout.specs.Layout.{lay_of};
 ghost use Rattle.laid.specs.Laid.{Laid};

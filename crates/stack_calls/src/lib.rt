@@ -1,5 +1,7 @@
 // The calls that change the main stack (document 01, module 5). Each gives 1 and 8 first, then 5, 4 and 2 as they apply, and
 // changes nothing where it refuses.
+#![tactic(auto)]
+
 ghost use Rattle.std.specs.Prelude.{◌≡◌};
 ghost use Rattle.base.specs.Heap.{heap};
 ghost use Rattle.stack_calls.specs.StackCalls.{push, pop, stack_set, set_top};

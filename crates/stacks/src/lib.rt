@@ -1,5 +1,7 @@
 // Stacks of values, of the main record and of threads alike: a `Counted` says where one lies, so what a call may do with it, and
 // what it refuses (5, 4, 2, in this order), is here once. So is a value that a call is given to store at a place.
+#![tactic(auto)]
+
 ghost use Rattle.std.specs.Prelude.{◌≡◌, ◌+◌, ◌≤◌, ◌<◌, length};
 ghost use Rattle.layout.specs.Layout.{lay_of};
 ghost use Rattle.laid.specs.Laid.{Laid};

@@ -1,4 +1,6 @@
 // What holds of every heap that the calls make, and what keeps it: all of it stands in specs/. A crate has a function, so here is one.
+#![tactic(auto)]
+
 ghost use Rattle.std.specs.Prelude.{◌≡◌};
 
 // The number that it is given.

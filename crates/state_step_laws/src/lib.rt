@@ -1,4 +1,6 @@
 // Each step of the collector keeps what holds of every heap: all of it stands in specs/. A crate has a function, so here is one.
+#![tactic(auto)]
+
 ghost use Rattle.std.specs.Prelude.{◌≡◌};
 
 // The number that it is given.

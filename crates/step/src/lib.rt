@@ -1,5 +1,7 @@
 // The single step (document 01, 'Steps and pacing'; the source's gc_singlestep and call_gc_finalizer): one unit of work in the
 // phase that the words say. Phases are Pause 0, Propagate 1, SweepString 2, Sweep 3, Finalize 4.
+#![tactic(auto)]
+
 ghost use Rattle.std.specs.Prelude.{◌≡◌, ◌+◌, ◌≤◌, ◌<◌, length};
 ghost use Rattle.layout.specs.Layout.{lay_of};
 ghost use Rattle.base.specs.Heap.{heap};

@@ -1,4 +1,6 @@
 // The answer of a call that steps, in numbers: a code, 0 or the number of a refusal, and six words lent for the rest.
+#![tactic(auto)]
+
 ghost use Rattle.std.specs.Prelude.{◌≡◌, ◌≤◌, length};
 ghost use Rattle.step_codes.specs.Codes.{six, told};
 

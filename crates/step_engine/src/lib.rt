@@ -1,5 +1,7 @@
 // The calls that step, for Rust or C to link: exported functions on numbers and slices only. The answer is a code, 0 or the
 // number of a refusal, and six words lent for the rest: which answer it is, then its numbers, 0 where there are none.
+#![tactic(auto)]
+
 ghost use Rattle.std.specs.Prelude.{◌≡◌, ◌≤◌, ◌<◌, ltb, length};
 ghost use Rattle.base.specs.Heap.{heap};
 ghost use Rattle.steps.specs.Steps.{gc_singlestep, gc_step, gc_step_auto, gc_check, full_gc, finish};

@@ -1,6 +1,8 @@
 // The calls that step (document 01, 'Steps and pacing'): single, budgeted, automatic, check and full, and finish. Each gives 1
 // and 8 first. While a finalizer is out, steps answer Busy and change nothing; an automatic step adds to the debt first, and a
 // check only tests the limit.
+#![tactic(auto)]
+
 ghost use Rattle.std.specs.Prelude.{◌≡◌, ◌≤◌, ◌<◌, length};
 ghost use Rattle.layout.specs.Layout.{lay_of};
 ghost use Rattle.base.specs.Heap.{heap};

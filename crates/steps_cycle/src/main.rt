@@ -3,6 +3,8 @@
 // succeeds; only that of userdata 6 fails, and while it is out other steps are tried. After each call its answer is written,
 // then phase, cursor, counters and the four lists. The heap is read from standard input; README.md says how that and the
 // stored output were made.
+#![tactic(auto)]
+
 ghost use Rattle.std.specs.Prelude.{◌≤◌, length};
 
 use accounts::Answer;

@@ -1,5 +1,7 @@
 // The calls that store in tables, upvalues and userdata and give a type its metatable, for Rust or C to link: exported functions on
 // numbers and slices only. The object is given by its handle. The answer is a code, 0 or the number of a refusal.
+#![tactic(auto)]
+
 ghost use Rattle.std.specs.Prelude.{◌≡◌};
 ghost use Rattle.base.specs.Heap.{heap};
 ghost use Rattle.value.specs.Values.{value_of};

@@ -1,5 +1,7 @@
 // One sweep step (document 01, 'Steps and pacing'; the source's sweep_strings_step and sweep_other_step): up to 80 occupied
 // slots of the arena at the cursor, what they took off total and estimate, and the cursor moved.
+#![tactic(auto)]
+
 ghost use Rattle.std.specs.Prelude.{◌≡◌, ℕ, ◌+◌, ◌*◌, ◌^◌, ◌≤◌, ◌<◌, max, length};
 ghost use Rattle.layout.specs.Layout.{lay_of};
 ghost use Rattle.base.specs.Heap.{heap};

@@ -1,5 +1,7 @@
 // The traversal of a table (document 01, 'Followed links'): its metatable always; of array and nodes what its mode leaves.
 // A weak table is listed, to be cleared in the atomic phase.
+#![tactic(auto)]
+
 ghost use Rattle.std.specs.Prelude.{◌≡◌, ◌+◌, ◌*◌, ◌≤◌, ◌<◌, length};
 ghost use Rattle.layout.specs.Layout.{lay_of};
 ghost use Rattle.laid.specs.Laid.{Laid};

@@ -1,5 +1,7 @@
 // Test 1: what every call asks of the header, in the order and words of specs/Test1.antt.
 // It reads the header alone, 34 of its 91 words with the damage mark, and the two lengths: its cost does not grow with the slots.
+#![tactic(auto)]
+
 ghost use Rattle.std.specs.Prelude.{◌≡◌, ℕ, ◌+◌, ◌≤◌, ◌<◌, length};
 ghost use Rattle.base.specs.Words.{at};
 ghost use Rattle.layout.specs.Table.{all};

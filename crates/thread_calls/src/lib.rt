@@ -1,5 +1,7 @@
 // The calls that give a thread its global table and its error value (document 01, module 5). Each gives 1 and 8 first, then 2 for
 // a handle that names no thread, then 2 for what is given to store, and changes nothing where it refuses.
+#![tactic(auto)]
+
 ghost use Rattle.std.specs.Prelude.{◌≡◌, ◌+◌, ◌≤◌, length};
 ghost use Rattle.layout.specs.Layout.{lay_of};
 ghost use Rattle.base.specs.Heap.{heap};

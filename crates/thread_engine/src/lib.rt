@@ -1,5 +1,7 @@
 // The calls on a thread, for Rust or C to link: exported functions on numbers and slices only. The thread is given by its handle.
 // The answer is a code, 0 or the number of a refusal, and three words lent for a popped value.
+#![tactic(auto)]
+
 ghost use Rattle.std.specs.Prelude.{◌≡◌};
 ghost use Rattle.base.specs.Heap.{heap};
 ghost use Rattle.value.specs.Values.{value_of};

@@ -1,5 +1,7 @@
 // The calls that push onto a thread's stack and pop from it (document 01, module 5). Each gives 1 and 8 first, then 2 for a
 // handle that names no thread, then 5, 4 and 2 as they apply, and changes nothing where it refuses.
+#![tactic(auto)]
+
 ghost use Rattle.std.specs.Prelude.{◌≡◌};
 ghost use Rattle.base.specs.Heap.{heap};
 ghost use Rattle.thread_stack_calls.specs.ThreadStacks.{thread_push, thread_pop};

@@ -1,5 +1,7 @@
 // The calls that change a thread's suspended upvalues (document 01, module 5). Each gives 1 and 8 first, then 2 for a handle that
 // names no thread, then 4 and 2 as they apply, and changes nothing where it refuses.
+#![tactic(auto)]
+
 ghost use Rattle.std.specs.Prelude.{◌≡◌};
 ghost use Rattle.base.specs.Heap.{heap};
 ghost use Rattle.thread_suspended_calls.specs.ThreadSuspended.{thread_suspended_push, thread_suspended_cut};

@@ -1,5 +1,7 @@
 // The calls in numbers, for Rust or C: what a number given as a tag or as a presence stands for, and an answer as a code, 0 or
 // the number of a refusal, with words lent for the rest. A number that stands for nothing is refused with 4, after 1 and 8.
+#![tactic(auto)]
+
 ghost use Rattle.std.specs.Prelude.{◌≡◌, ◌≤◌, length};
 ghost use Rattle.base.specs.Heap.{heap};
 ghost use Rattle.given.specs.Answers.{served_number};

@@ -1,5 +1,7 @@
 // The calls that close an upvalue over a value, or set a closed one (document 01, module 5). Each gives 1 and 8 first, then 5, then
 // 2, and changes nothing where it refuses. The forward barrier follows the store; where it set the damage mark the answer is 8.
+#![tactic(auto)]
+
 ghost use Rattle.std.specs.Prelude.{◌≡◌, ◌+◌, ◌≤◌, length};
 ghost use Rattle.layout.specs.Layout.{lay_of};
 ghost use Rattle.base.specs.Heap.{heap};

@@ -1,4 +1,6 @@
 // Lists of upvalues' handles, two words for each place, of the main record and of threads alike: a `Counted` says where one lies.
+#![tactic(auto)]
+
 ghost use Rattle.std.specs.Prelude.{◌≡◌, ◌≤◌, length};
 ghost use Rattle.layout.specs.Layout.{lay_of};
 ghost use Rattle.laid.specs.Laid.{Laid};

@@ -1,5 +1,7 @@
 // Handles and values (document 01, module 2): a handle for each kind, the nine kinds of value and the three words that
 // each is stored in, a handle that may be missing, and the equality of keys.
+#![tactic(auto)]
+
 ghost use Rattle.std.specs.Prelude.{◌≡◌, ◌+◌, ◌<◌, length};
 ghost use Rattle.base.specs.Words.{put};
 ghost use Rattle.value.specs.Numbers.{is_na_n, same_number};

@@ -1,4 +1,6 @@
 // Values read from words, odd ones too, said in words.
+#![tactic(auto)]
+
 use libc::STDOUT_FILENO;
 use value::Value;
 
