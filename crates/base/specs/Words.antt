@@ -1,5 +1,5 @@
 -- A word or two in a buffer, and sums and counts that stop at their ends. Assumes nothing.
-use Rattle.std.specs.Prelude.{List, ℕ, ◌+◌, ◌-◌, ◌*◌, ◌/◌, ◌%◌, min, get_or, set}
+use Rattle.std.specs.Prelude.{List, ℕ, ◌+◌, ◌*◌, ◌/◌, ◌%◌, min, get_or, set}
 use Rattle.base.specs.Ways.{if_le}
 use Rattle.base.specs.Loop.{run}
 
