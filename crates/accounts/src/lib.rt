@@ -9,7 +9,7 @@ use pacing::Counts;
 use value::{UdOr, UdRef, Value};
 
 // What a step or finish answers.
-#[derive(Drop)]
+#[derive(Clone, Copy)]
 pub enum Answer {
     // A single step was made, at this cost.
     Stepped(usize),
@@ -40,7 +40,7 @@ pub const FULL_FIRST: u32 = 4;
 pub const FULL_SECOND: u32 = 5;
 
 // One turn of a loop of steps: it goes on with what is left of the budget, or is over.
-#[derive(Drop)]
+#[derive(Clone, Copy)]
 pub enum Turn {
     Left(u64),
     Over(Answer),

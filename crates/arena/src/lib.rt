@@ -10,7 +10,7 @@ ghost use Rattle.arena.specs.Slots.{Room, Wide, colour, set_colour, gen, set_gen
 use base::wide;
 
 // Where the parts of one arena lie.
-#[derive(Drop)]
+#[derive(Clone, Copy)]
 pub struct Arena {
     // Three words of the header: the head of the chain, the fresh index, the count of occupied slots.
     pub top: usize,
@@ -25,14 +25,14 @@ pub struct Arena {
 }
 
 // What a handle names.
-#[derive(Drop)]
+#[derive(Clone, Copy)]
 pub enum Named {
     At(usize),
     Stale,
 }
 
 // What taking a slot finds.
-#[derive(Drop)]
+#[derive(Clone, Copy)]
 pub enum Took {
     // A slot, with its generation.
     Slot(usize, u32),
@@ -43,21 +43,21 @@ pub enum Took {
 }
 
 // What freeing by a handle answers.
-#[derive(Drop)]
+#[derive(Clone, Copy)]
 pub enum Freed {
     Done,
     Refused(u32),
 }
 
 // A sweep on its way: how many occupied slots it may still see, and how many it freed.
-#[derive(Drop)]
+#[derive(Clone, Copy)]
 pub struct Sweep {
     pub left: usize,
     pub freed: usize,
 }
 
 // What a sweep did, where the next one starts, and whether it reached the end.
-#[derive(Drop)]
+#[derive(Clone, Copy)]
 pub struct Swept {
     pub freed: usize,
     pub next: usize,

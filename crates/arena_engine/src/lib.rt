@@ -9,7 +9,7 @@ ghost use Rattle.arena_engine.specs.Exports.{placed, Places, take_on, free_on, p
 use arena::Arena;
 
 // Where an arena lies, or that the buffers are too short for it.
-#[derive(Drop)]
+#[derive(Clone, Copy)]
 pub enum Placed {
     Fits(Arena),
     Refused(u32),

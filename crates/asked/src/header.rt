@@ -7,49 +7,49 @@ use part_reads::{Listed, Main, Slots, Which};
 use reads::{Counter, Kind, Read, Root, Size};
 
 // What a number asks, or that it asks nothing: one for each question.
-#[derive(Drop)]
+#[derive(Clone, Copy)]
 pub enum CounterOr {
     Unknown,
     Known(Counter),
 }
 
-#[derive(Drop)]
+#[derive(Clone, Copy)]
 pub enum SizeOr {
     Unknown,
     Known(Size),
 }
 
-#[derive(Drop)]
+#[derive(Clone, Copy)]
 pub enum RootOr {
     Unknown,
     Known(Root),
 }
 
-#[derive(Drop)]
+#[derive(Clone, Copy)]
 pub enum MainOr {
     Unknown,
     Known(Main),
 }
 
-#[derive(Drop)]
+#[derive(Clone, Copy)]
 pub enum WhichOr {
     Unknown,
     Known(Which),
 }
 
-#[derive(Drop)]
+#[derive(Clone, Copy)]
 pub enum ListedOr {
     Unknown,
     Known(Listed),
 }
 
-#[derive(Drop)]
+#[derive(Clone, Copy)]
 pub enum KindOr {
     Unknown,
     Known(Kind),
 }
 
-#[derive(Drop)]
+#[derive(Clone, Copy)]
 pub enum SlotsOr {
     Unknown,
     Known(Slots),

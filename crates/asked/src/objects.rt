@@ -11,43 +11,43 @@ use table_reads::{StringField, TableField, UserdataField};
 use value::{FuncRef, StrRef, TableRef, ThreadRef, UdRef, UpvalRef};
 
 // What a number asks for, or that it asks for nothing: one for each kind of object.
-#[derive(Drop)]
+#[derive(Clone, Copy)]
 pub enum StringFieldOr {
     Unknown,
     Known(StringField),
 }
 
-#[derive(Drop)]
+#[derive(Clone, Copy)]
 pub enum TableFieldOr {
     Unknown,
     Known(TableField),
 }
 
-#[derive(Drop)]
+#[derive(Clone, Copy)]
 pub enum ClosureFieldOr {
     Unknown,
     Known(ClosureField),
 }
 
-#[derive(Drop)]
+#[derive(Clone, Copy)]
 pub enum UpvalueFieldOr {
     Unknown,
     Known(UpvalueField),
 }
 
-#[derive(Drop)]
+#[derive(Clone, Copy)]
 pub enum UserdataFieldOr {
     Unknown,
     Known(UserdataField),
 }
 
-#[derive(Drop)]
+#[derive(Clone, Copy)]
 pub enum ThreadFieldOr {
     Unknown,
     Known(ThreadField),
 }
 
-#[derive(Drop)]
+#[derive(Clone, Copy)]
 pub enum ProtoFieldOr {
     Unknown,
     Known(ProtoField),

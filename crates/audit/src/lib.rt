@@ -11,7 +11,7 @@ ghost use Rattle.audit.specs.Audit.{is_within, lists_within, chains_hold, audit_
 use layout::{List, Opened, Sizes};
 
 // What the audit answers.
-#[derive(Drop)]
+#[derive(Clone, Copy)]
 pub enum Audited {
     Yes,
     No,

@@ -14,7 +14,7 @@ use reads::Read;
 use value::{StrOr, TableOr, UdOr, Value};
 
 // An answer in words, the first of which says which kind it is, or the number of a refusal.
-#[derive(Drop)]
+#[derive(Clone, Copy)]
 pub enum Answer {
     Words(u32, u32, u32, u32),
     Refused(u32),

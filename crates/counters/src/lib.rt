@@ -5,7 +5,7 @@
 ghost use Rattle.std.specs.Prelude.{◌≡◌, ◌+◌, ◌≤◌, min, max, length};
 ghost use Rattle.counters.specs.Count.{tracked, counters_at, put_counters, would_pass, track};
 
-#[derive(Drop)]
+#[derive(Clone, Copy)]
 pub struct Counters {
     pub total: u32,
     pub peak: u32,

@@ -14,14 +14,14 @@ use layout::Sizes;
 use value::{TableOr, TableRef, UpvalRef, Value};
 
 // What a call answers that changes something and has nothing to tell.
-#[derive(Drop)]
+#[derive(Clone, Copy)]
 pub enum Served {
     Done,
     Refused(u32),
 }
 
 // What a call answers that hands a value back.
-#[derive(Drop)]
+#[derive(Clone, Copy)]
 pub enum Got {
     Value(Value),
     Refused(u32),

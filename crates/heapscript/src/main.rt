@@ -9,7 +9,7 @@ use libc::{STDIN_FILENO, STDOUT_FILENO};
 use script_input::Reading;
 
 // How far the input is read, and whether more may follow.
-#[derive(Drop)]
+#[derive(Clone, Copy)]
 pub struct Input {
     pub reading: Reading,
     pub more: bool,

@@ -113,7 +113,7 @@ pub const HANDLE_WORDS: usize = 2;
 pub const STRING_BYTES: usize = 64;
 
 // The ten sizes that a heap is made with: the slots of each arena, prototypes, main stack, main open list, frames.
-#[derive(Drop)]
+#[derive(Clone, Copy)]
 pub struct Sizes {
     pub strings: usize,
     pub tables: usize,
@@ -128,7 +128,7 @@ pub struct Sizes {
 }
 
 // A working list: the place of its count, and its items, ITEM_WORDS words each.
-#[derive(Drop)]
+#[derive(Clone, Copy)]
 pub struct List {
     pub count: usize,
     pub base: usize,
@@ -136,14 +136,14 @@ pub struct List {
 }
 
 // A part of the main record past the boundary.
-#[derive(Drop)]
+#[derive(Clone, Copy)]
 pub struct Part {
     pub base: usize,
     pub room: usize,
 }
 
 // Where everything lies. Marking writes below the boundary only; traversal reads past it.
-#[derive(Drop)]
+#[derive(Clone, Copy)]
 pub struct Lay {
     pub strings: Arena,
     pub tables: Arena,
@@ -165,14 +165,14 @@ pub struct Lay {
 }
 
 // The sizes of a layout that fits, or the number of a refusal.
-#[derive(Drop)]
+#[derive(Clone, Copy)]
 pub enum Opened {
     Fits(Sizes),
     Refused(u32),
 }
 
 // Words and bytes, or the number of a refusal.
-#[derive(Drop)]
+#[derive(Clone, Copy)]
 pub enum Needs {
     Room(usize, usize),
     Refused(u32),

@@ -10,7 +10,7 @@ use layout::List;
 use value::{FuncRef, TableRef, ThreadRef, UdRef};
 
 // What a list holds.
-#[derive(Drop)]
+#[derive(Clone, Copy)]
 pub enum Item {
     Table(TableRef),
     Function(FuncRef),
@@ -23,7 +23,7 @@ pub enum Item {
 }
 
 // What a list hands out.
-#[derive(Drop)]
+#[derive(Clone, Copy)]
 pub enum Popped {
     Nothing,
     Got(Item),

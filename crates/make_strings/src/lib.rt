@@ -15,7 +15,7 @@ use making::{Made, New};
 use value::StrRef;
 
 // The slot that holds the bytes.
-#[derive(Drop)]
+#[derive(Clone, Copy)]
 pub enum Found {
     At(usize),
     Nothing,

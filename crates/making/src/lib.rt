@@ -12,7 +12,7 @@ use arena::{Arena, Took};
 use value::{FuncRef, StrRef, TableRef, ThreadRef, UdRef, UpvalRef};
 
 // What a call that makes something answers: a handle of the kind made, a prototype's number, or a refusal.
-#[derive(Drop)]
+#[derive(Clone, Copy)]
 pub enum Made {
     Str(StrRef),
     Table(TableRef),
@@ -25,7 +25,7 @@ pub enum Made {
 }
 
 // A new object of any kind: the index and generation of its handle, and the place of its body.
-#[derive(Drop)]
+#[derive(Clone, Copy)]
 pub enum New {
     At(u32, u32, usize),
     Refused(u32),

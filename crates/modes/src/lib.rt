@@ -14,7 +14,7 @@ use layout::Sizes;
 use value::{StrOr, StrRef, TableOr, TableRef, Value};
 
 // Weak keys, weak values.
-#[derive(Drop)]
+#[derive(Clone, Copy)]
 pub struct Mode {
     pub keys: bool,
     pub values: bool,

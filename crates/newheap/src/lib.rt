@@ -14,7 +14,7 @@ use base::put;
 use layout::{Lay, Opened, Sizes};
 
 // What making a heap answers.
-#[derive(Drop)]
+#[derive(Clone, Copy)]
 pub enum Made {
     Done,
     Refused(u32),

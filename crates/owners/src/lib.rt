@@ -13,7 +13,7 @@ use stacks::Counted;
 use value::ThreadRef;
 
 // The place of the record that a handle names.
-#[derive(Drop)]
+#[derive(Clone, Copy)]
 pub enum Body {
     At(usize),
     Stale,

@@ -16,7 +16,7 @@ use sweep_step::SweepCursor;
 use value::{UdRef, Value};
 
 // How full collection's loop of steps ended.
-#[derive(Drop)]
+#[derive(Clone, Copy)]
 pub enum Half {
     Through,
     Handed(UdRef, Value),

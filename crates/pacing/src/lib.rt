@@ -9,7 +9,7 @@ ghost use Rattle.pacing.specs.Pacing.{budget_of, automatic_budget, grown_debt, c
 pub const NO_DEBT: u64 = 9223372036854775808;
 
 // How many slots of each kind are occupied.
-#[derive(Drop)]
+#[derive(Clone, Copy)]
 pub struct Counts {
     pub strings: usize,
     pub tables: usize,

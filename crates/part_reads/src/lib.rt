@@ -16,7 +16,7 @@ use reads::{Kind, Read};
 use value::UpvalRef;
 
 // A field of the main record.
-#[derive(Drop)]
+#[derive(Clone, Copy)]
 pub enum Main {
     Top,
     Opens,
@@ -29,7 +29,7 @@ pub enum Main {
 }
 
 // One of the four working lists.
-#[derive(Drop)]
+#[derive(Clone, Copy)]
 pub enum Which {
     Gray,
     Grayagain,
@@ -38,14 +38,14 @@ pub enum Which {
 }
 
 // An item of a list, or how many there are.
-#[derive(Drop)]
+#[derive(Clone, Copy)]
 pub enum Listed {
     Length,
     At(u32),
 }
 
 // What an arena keeps beside its bodies. A slot is given by its index, which lies below the fresh index.
-#[derive(Drop)]
+#[derive(Clone, Copy)]
 pub enum Slots {
     // The head of the chain and a slot's link: index + 1, 0 for none.
     Head,

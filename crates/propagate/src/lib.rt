@@ -14,7 +14,7 @@ use lists::{Item, Popped};
 use value::{StrOr, TableRef, Value};
 
 // What one step answers: the cost of what was traversed; that the main thread is next; that nothing is gray.
-#[derive(Drop)]
+#[derive(Clone, Copy)]
 pub enum Propagated {
     Done(usize),
     NeedMainThread,

@@ -12,7 +12,7 @@ use layout::{Opened, Sizes};
 use reads::Read;
 
 // A field of a prototype. `Parent` is its number + 1, 0 for none.
-#[derive(Drop)]
+#[derive(Clone, Copy)]
 pub enum ProtoField {
     Constants,
     Nested,

@@ -16,7 +16,7 @@ use lists::Item;
 use value::{StrOr, TableOr, UdOr, UpvalRef, Value};
 
 // What a read answers.
-#[derive(Drop)]
+#[derive(Clone, Copy)]
 pub enum Read {
     Number(u64),
     Value(Value),
@@ -29,7 +29,7 @@ pub enum Read {
 }
 
 // A counter, setting or mark of the header.
-#[derive(Drop)]
+#[derive(Clone, Copy)]
 pub enum Counter {
     Prototypes,
     Limit,
@@ -52,14 +52,14 @@ pub enum Counter {
 }
 
 // Where a counter stands: one word, or two.
-#[derive(Drop)]
+#[derive(Clone, Copy)]
 pub enum Field {
     Short(usize),
     Long(usize),
 }
 
 // One of the ten sizes that the heap was made with, in the order of `layout::Sizes`.
-#[derive(Drop)]
+#[derive(Clone, Copy)]
 pub enum Size {
     Strings,
     Tables,
@@ -74,7 +74,7 @@ pub enum Size {
 }
 
 // A root that is a handle.
-#[derive(Drop)]
+#[derive(Clone, Copy)]
 pub enum Root {
     Global,
     Registry,
@@ -86,7 +86,7 @@ pub enum Root {
 }
 
 // One of the six arenas, in sweep order.
-#[derive(Drop)]
+#[derive(Clone, Copy)]
 pub enum Kind {
     Strings,
     Tables,
@@ -97,7 +97,7 @@ pub enum Kind {
 }
 
 // What a handle names: its slot and the place of its body. Or the number of a refusal.
-#[derive(Drop)]
+#[derive(Clone, Copy)]
 pub enum Found {
     At(usize, usize),
     Refused(u32),

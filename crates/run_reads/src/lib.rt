@@ -10,7 +10,7 @@ use reads::{Found, Kind, Read};
 use value::{FuncRef, ThreadRef, UpvalRef};
 
 // A field of a closure. A Lua closure has upvalues, a Rust closure (`Rust` is 1) values; both end at the count.
-#[derive(Drop)]
+#[derive(Clone, Copy)]
 pub enum ClosureField {
     Rust,
     Env,
@@ -73,7 +73,7 @@ pub fn read_closure(w: &[u32], b: &[u8], f: FuncRef, q: ClosureField) -> Read
 }
 
 // A field of an upvalue. `Closed` is 1 or 0.
-#[derive(Drop)]
+#[derive(Clone, Copy)]
 pub enum UpvalueField {
     Closed,
     Value,
@@ -100,7 +100,7 @@ pub fn read_upvalue(w: &[u32], b: &[u8], u: UpvalRef, q: UpvalueField) -> Read
 }
 
 // A field of a thread. The upvalues end at their counts, the stack at its size.
-#[derive(Drop)]
+#[derive(Clone, Copy)]
 pub enum ThreadField {
     Global,
     Hook,

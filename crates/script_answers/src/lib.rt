@@ -10,14 +10,14 @@ use script_print::Outcome;
 use value::{TableOr, TableRef, Value};
 
 // A made table, or what is none.
-#[derive(Drop)]
+#[derive(Clone, Copy)]
 pub enum TableGiven {
     Is(TableRef),
     Not,
 }
 
 // A made table or 0, or what is neither.
-#[derive(Drop)]
+#[derive(Clone, Copy)]
 pub enum MetaGiven {
     Is(TableOr),
     Not,

@@ -6,7 +6,7 @@ ghost use Rattle.std.specs.Prelude.{◌≡◌};
 ghost use Rattle.script_bytes.specs.Bytes.{kept, said, gather};
 
 // The place past what was read of the part, how many bytes of the line are gathered, and whether the line is whole.
-#[derive(Drop)]
+#[derive(Clone, Copy)]
 pub struct Gathered {
     pub next: usize,
     pub count: usize,

@@ -12,14 +12,14 @@ use reads::{Kind, Read};
 use script_print::{Counts, Outcome};
 
 // The answer of a collection's last call, and the place past what is printed.
-#[derive(Drop)]
+#[derive(Clone, Copy)]
 pub struct Handing {
     pub answer: Answer,
     pub next: usize,
 }
 
 // How a command ended, and the place past what is printed.
-#[derive(Drop)]
+#[derive(Clone, Copy)]
 pub struct Told {
     pub outcome: Outcome,
     pub next: usize,

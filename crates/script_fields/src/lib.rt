@@ -5,7 +5,7 @@ ghost use Rattle.std.specs.Prelude.{◌≡◌, ◌≤◌, ◌<◌, length};
 ghost use Rattle.script_fields.specs.Fields.{field_end, Within, word_of, other_word, word_at, number_on, number_at};
 
 // The nine command words, or none of them.
-#[derive(Drop)]
+#[derive(Clone, Copy)]
 pub enum Word {
     Str,
     Tab,
@@ -20,7 +20,7 @@ pub enum Word {
 }
 
 // A field that is a number: the line's last, or one that a field follows, which starts at the place given. Or no number.
-#[derive(Drop)]
+#[derive(Clone, Copy)]
 pub enum Field {
     Last(u32),
     Part(u32, usize),

@@ -8,7 +8,7 @@ ghost use Rattle.script_input.specs.Input.{started, renewed, read_on, passed, is
 use script_bytes::Gathered;
 
 // The place in the part, how many bytes of the line are gathered, whether the line is whole, and the line's number.
-#[derive(Drop)]
+#[derive(Clone, Copy)]
 pub struct Reading {
     pub at: usize,
     pub count: usize,

@@ -8,7 +8,7 @@ ghost use Rattle.script_line.specs.Lines.{counted, fourth, third, second, first,
 use script_fields::{Field, Word};
 
 // The numbers in the fields after the first, and how many: 0 to 4, or 5 where a field is no number or there are more.
-#[derive(Drop)]
+#[derive(Clone, Copy)]
 pub struct Numbers {
     pub count: usize,
     pub a: u32,
@@ -18,7 +18,7 @@ pub struct Numbers {
 }
 
 // A command. The text of `str` is the line from the place given on.
-#[derive(Drop)]
+#[derive(Clone, Copy)]
 pub enum Command {
     Str(usize),
     Tab(u32, u32),

@@ -8,7 +8,7 @@ ghost use Rattle.script_made.specs.Objects.{room_of, count_of, object_of, is_ful
 use value::Value;
 
 // What a number names: nil for 0, or the made object of that number. Or no made object.
-#[derive(Drop)]
+#[derive(Clone, Copy)]
 pub enum Object {
     Known(Value),
     Unmade,

@@ -10,7 +10,7 @@ use script_bytes::say;
 use value::{StrRef, TableRef, UdRef};
 
 // How many objects of each kind, in sweep order.
-#[derive(Drop)]
+#[derive(Clone, Copy)]
 pub struct Counts {
     pub strings: u64,
     pub tables: u64,
@@ -21,7 +21,7 @@ pub struct Counts {
 }
 
 // How a line ended: with nothing to print, a made object and its number, the counts of what was freed, or a refusal.
-#[derive(Drop)]
+#[derive(Clone, Copy)]
 pub enum Outcome {
     Quiet,
     Str(u32, StrRef),

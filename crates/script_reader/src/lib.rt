@@ -8,7 +8,7 @@ ghost use Rattle.script_fields.specs.Fields.{word_at, number_at};
 use script_fields::{Field, Word};
 
 // The line's bytes and a position.
-#[derive(Drop)]
+#[derive(Clone, Copy)]
 pub struct Reader<'a> {
     pub line: &'a [u8],
     pub at: usize,

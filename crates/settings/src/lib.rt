@@ -9,7 +9,7 @@ ghost use Rattle.settings.specs.Settings.{set_word, set_pause, set_stepmul, lowe
 use layout::Opened;
 
 // What a call answers that sets something: the value before. No limit is 2^64 - 1.
-#[derive(Drop)]
+#[derive(Clone, Copy)]
 pub enum Setting {
     Was(u64),
     Refused(u32),

@@ -13,7 +13,7 @@ use layout::Sizes;
 use value::Value;
 
 // A counted part of the words: the place of its count, its first place, how many places it has, its count as it is read.
-#[derive(Drop)]
+#[derive(Clone, Copy)]
 pub struct Counted {
     pub word: usize,
     pub base: usize,

@@ -14,7 +14,7 @@ use propagate::Propagated;
 use value::{UdRef, Value};
 
 // What a step answers: its cost, or a finalizer that is handed out: the userdata and the method.
-#[derive(Drop)]
+#[derive(Clone, Copy)]
 pub enum Single {
     Cost(usize),
     Out(UdRef, Value),

@@ -15,7 +15,7 @@ use reads::{Counter, Read};
 use value::UdRef;
 
 // A call that steps.
-#[derive(Drop)]
+#[derive(Clone, Copy)]
 pub enum By {
     Single,
     Budget(u32),

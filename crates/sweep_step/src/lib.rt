@@ -14,7 +14,7 @@ use arena::{Arena, Swept};
 use layout::Sizes;
 
 // Where a sweep goes on: the arena, of tables 0, closures 1, upvalues 2, userdata 3, threads 4, and the slot.
-#[derive(Drop)]
+#[derive(Clone, Copy)]
 pub struct SweepCursor {
     pub arena_index: u32,
     pub slot_position: u32,

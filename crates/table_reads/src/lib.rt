@@ -11,7 +11,7 @@ use reads::{Found, Kind, Read};
 use value::{StrRef, TableRef, UdRef};
 
 // A field of a string. The bytes end at the length.
-#[derive(Drop)]
+#[derive(Clone, Copy)]
 pub enum StringField {
     Length,
     Byte(u32),
@@ -59,7 +59,7 @@ pub fn read_string(w: &[u32], b: &[u8], s: StrRef, q: StringField) -> Read
 }
 
 // A field of a table. The array and the nodes end at their sizes.
-#[derive(Drop)]
+#[derive(Clone, Copy)]
 pub enum TableField {
     Meta,
     Array,
@@ -112,7 +112,7 @@ pub fn read_table(w: &[u32], b: &[u8], t: TableRef, q: TableField) -> Read
 }
 
 // A field of a userdata. `Finalized` is 1 or 0.
-#[derive(Drop)]
+#[derive(Clone, Copy)]
 pub enum UserdataField {
     Meta,
     Env,

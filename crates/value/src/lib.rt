@@ -9,26 +9,26 @@ ghost use Rattle.value.specs.Values.{is_nil, tag_of, word_of, low_of, high_of, b
 ghost use Rattle.value.specs.Handles.{handle_of, handle_at, put_handle, table_in, table_or_at, put_table_or, str_in, str_or_at, put_str_or, ud_in, ud_or_at, put_ud_or};
 
 // A handle is an index and a generation. Each kind has its own, so that a string's never passes for a table's.
-#[derive(Drop)]
+#[derive(Clone, Copy)]
 pub struct StrRef(pub u32, pub u32);
 
-#[derive(Drop)]
+#[derive(Clone, Copy)]
 pub struct TableRef(pub u32, pub u32);
 
-#[derive(Drop)]
+#[derive(Clone, Copy)]
 pub struct FuncRef(pub u32, pub u32);
 
-#[derive(Drop)]
+#[derive(Clone, Copy)]
 pub struct UpvalRef(pub u32, pub u32);
 
-#[derive(Drop)]
+#[derive(Clone, Copy)]
 pub struct UdRef(pub u32, pub u32);
 
-#[derive(Drop)]
+#[derive(Clone, Copy)]
 pub struct ThreadRef(pub u32, pub u32);
 
 // The nine kinds, in the order of their tags. A number is the pattern of its 64 bits.
-#[derive(Drop)]
+#[derive(Clone, Copy)]
 pub enum Value {
     Nil,
     Boolean(bool),
@@ -42,28 +42,28 @@ pub enum Value {
 }
 
 // A handle of any kind that may be missing: index and generation.
-#[derive(Drop)]
+#[derive(Clone, Copy)]
 pub enum Handle {
     Absent,
     Present(u32, u32),
 }
 
 // A table's handle that may be missing.
-#[derive(Drop)]
+#[derive(Clone, Copy)]
 pub enum TableOr {
     Absent,
     Present(TableRef),
 }
 
 // A string's handle that may be missing.
-#[derive(Drop)]
+#[derive(Clone, Copy)]
 pub enum StrOr {
     Absent,
     Present(StrRef),
 }
 
 // A userdata's handle that may be missing.
-#[derive(Drop)]
+#[derive(Clone, Copy)]
 pub enum UdOr {
     Absent,
     Present(UdRef),
