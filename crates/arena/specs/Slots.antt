@@ -1,6 +1,6 @@
 -- Document 01, 'Slots and colours': the words of one arena, read and written by name; a slot taken, freed and swept.
 -- An `Arena` says where the parts lie, so this holds of each of the six. Assumes nothing.
-use Rattle.std.specs.Prelude.{◌≡◌, ℕ, ◌+◌, ◌-◌, ◌*◌, ◌%◌, ◌^◌, ◌<◌, ◌≤◌, min, List, length, nat_le}
+use Rattle.std.specs.Prelude.{ℕ, ◌+◌, ◌-◌, ◌*◌, ◌%◌, ◌^◌, ◌<◌, ◌≤◌, min, List, length, nat_le}
 use Rattle.std.proofs.Common.{suc-mul, mul-le-mul_right}
 use Rattle.base.specs.Ways.{if_lt, if_le, if_eq}
 use Rattle.base.specs.Loop.{run, scan}

@@ -1,0 +1,13 @@
+-- `arena::no_room` meets its contract: each way by its test. Assumes nothing.
+use Rattle.std.proofs.Common.{refl, arith}
+use Rattle.arena.specs.Slots.{no_room}
+use Rattle.base.specs.Ways.{lt_yes, lt_no}
+use Rattle.arena.proofs.no_room.Goals as goal
+
+pub returns-then-occupied_of-n : goal.returns-then-occupied_of-n
+unfolding no_room
+returns-then-occupied_of-n c = (lt_yes _ _ _ _ _ (omega arith) refl, tt)
+
+pub returns : goal.returns
+unfolding no_room
+returns c = (lt_no _ _ _ _ _ (omega arith) refl, tt)
