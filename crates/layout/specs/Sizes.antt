@@ -1,5 +1,5 @@
 -- Document 01, 'Sizes': the ten sizes that a heap is made with, and their ranges. Assumes nothing.
-use Rattle.std.specs.Prelude.{◌≡◌, Bool, true, List, [], ◌∷◌, ℕ, ◌≤◌}
+use Rattle.std.specs.Prelude.{◌≡◌, Bool, true, List, [], ◌∷◌, ◌≤◌}
 use Rattle.std.proofs.Common.{arith}
 use Rattle.layout.specs.Table.{Row, ◌⊑◌, all, Hold, all_hold}
 use Rattle.layout.specs.declared.Sizes.{Sizes}
