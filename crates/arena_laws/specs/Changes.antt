@@ -7,7 +7,7 @@ use Prim.Native.Nat.{ℕ, ◌+◌, ◌-◌, ◌*◌, ◌%◌, ◌^◌, ◌≤◌
 use native.Mathlib.Omega.{arith}
 use Rattle.base.specs.Words.{at, clear, more}
 use Rattle.base.specs.Heap.{Heap}
-use Rattle.arena.specs.Slots.{Room, row, colour, set_colour, gen, link, head, extent, fresh, count, emptied, chained, free_slot, popped, opened}
+use Rattle.arena.specs.Slots.{Room, row, set_colour, gen, link, head, extent, fresh, count, emptied, chained, free_slot, popped, opened}
 use Rattle.arena.specs.declared.Arena.{Arena}
 use Rattle.arena_laws.specs.Words.{le_or_lt, puts, puts_length, puts_far, puts_at, clear_length, clear_out}
 

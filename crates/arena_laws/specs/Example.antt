@@ -1,15 +1,15 @@
 -- A small arena that is well-formed, and the theorems put to it. Assumes nothing.
 -- It has six slots, the fresh index 5, slot 4 free, slots 1 and 3 in the old white. A sweep frees 3 and 1, the chain is then
 -- 3, 1, 4, and the generation 4294967295 of slot 3 becomes 0.
-use Rattle.std.specs.Prelude.{◌≡◌, refl, true, ℕ, zero, suc, ◌-◌, ◌<◌}
+use Rattle.std.specs.Prelude.{◌≡◌, refl, true, ℕ, zero, suc, ◌<◌}
 use Rattle.std.proofs.Common.{sym, subst, arith}
 use mathlib.Core.List.Memᴰ
 use mathlib.Core.List.{List, [], ◌∷◌, Memᴰ}
 use Rattle.base.specs.Loop.{run, rounds, scan, scans}
 use Rattle.base.specs.Ways.{if_lt, if_le, if_eq}
-use Rattle.base.specs.Words.{at, clear}
+use Rattle.base.specs.Words.{clear}
 use Rattle.base.specs.Heap.{Heap, heap}
-use Rattle.arena.specs.Slots.{Room, colour, head, fresh, named, tallied, occupied, emptied, chained, free_slot, freed, take_slot, take_head, visit, sweep_partial}
+use Rattle.arena.specs.Slots.{Room, colour, head, named, tallied, occupied, emptied, chained, free_slot, take_slot, take_head, visit, sweep_partial}
 use Rattle.arena.specs.declared.Arena.{Arena}
 use Rattle.arena.specs.declared.Named.TheVariants.{At, Stale}
 use Rattle.arena.specs.declared.Took.TheVariants.{Slot}

@@ -1,5 +1,5 @@
 -- What is written elsewhere leaves an arena as it is: only its header and the cells of its slots tell what it is. Assumes nothing.
-use Rattle.std.specs.Prelude.{◌≡◌, refl, ◌⊎◌, List, ℕ, ◌+◌, ◌*◌, min, ◌≤◌, ◌<◌, length}
+use Rattle.std.specs.Prelude.{◌≡◌, refl, List, ℕ, ◌+◌, ◌*◌, min, ◌≤◌, ◌<◌, length}
 use Rattle.std.proofs.Common.{sym, subst, ap, ◌∙◌, inl, inr, ⊎_elim, arith}
 use Rattle.base.specs.Words.{at}
 use Rattle.arena.specs.Slots.{known, colour, gen, link, head, fresh, used, occupied, named}

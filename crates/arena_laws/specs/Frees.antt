@@ -3,17 +3,17 @@ use Rattle.std.specs.Prelude.{◌≡◌, refl, ◌⊎◌, ◌≢◌, length}
 use Rattle.std.proofs.Common.{sym, subst, ◌∙◌, ⊎_elim}
 use Rattle.std.proofs.Math.Path.{ap}
 use mathlib.Core.List.{List, ◌∷◌}
-use Prim.Native.Nat.{ℕ, ◌+◌, ◌-◌, ◌*◌, ◌%◌, ◌^◌, ◌≤◌, ◌<◌}
+use Prim.Native.Nat.{ℕ, ◌+◌, ◌*◌, ◌%◌, ◌^◌, ◌≤◌, ◌<◌}
 use native.Mathlib.Omega.{arith}
 use Rattle.base.specs.Ways.{le_yes, le_no}
 use Rattle.base.specs.Words.{at, clear}
-use Rattle.base.specs.Heap.{Heap, heap}
+use Rattle.base.specs.Heap.{Heap}
 use Rattle.arena.specs.Slots.{Room, Wide, row, colour, gen, head, extent, fresh, named, emptied, chained, free_slot, freed, freed_at}
 use Rattle.arena.specs.declared.Arena.{Arena}
 use Rattle.arena.specs.declared.Named.{Named}
 use Rattle.arena.specs.declared.Named.TheVariants.{At, Stale}
 use Rattle.arena.specs.declared.Freed.TheVariants.{Done, Refused}
-use Rattle.arena_laws.specs.Words.{le_or_lt, puts, puts_far, clear_length, clear_in, clear_out}
+use Rattle.arena_laws.specs.Words.{le_or_lt, puts_far, clear_length, clear_in, clear_out}
 use Rattle.arena_laws.specs.Chain.{Chain, WellFormed}
 use Rattle.arena_laws.specs.Changes.{Outside, rows_apart, free_cells, freed_is}
 use Rattle.arena_laws.specs.Names.{Names, named_tells, named_free}

@@ -5,7 +5,7 @@ use Rattle.std.proofs.Common.{◌∙◌, inl, inr, arith}
 use Rattle.std.proofs.Math.Logic.{⊎_elim}
 use Rattle.std.proofs.Math.Decide.{ℕ_discrete}
 use Rattle.base.specs.Ways.{if_eq, le_yes, le_no, eq_yes, eq_no}
-use Rattle.arena.specs.Slots.{colour, gen, fresh, used, named}
+use Rattle.arena.specs.Slots.{colour, gen, used, named}
 use Rattle.arena.specs.declared.Arena.{Arena}
 use Rattle.arena.specs.declared.Named.{Named}
 use Rattle.arena.specs.declared.Named.TheVariants.{At, Stale}

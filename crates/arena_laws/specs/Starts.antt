@@ -1,8 +1,8 @@
 -- An arena with no slot taken yet is well-formed. Assumes nothing.
-use Rattle.std.specs.Prelude.{◌≡◌, refl, List, [], ℕ, min, ◌≤◌, ◌<◌}
+use Rattle.std.specs.Prelude.{◌≡◌, refl, List, [], ℕ, ◌<◌}
 use Rattle.std.proofs.Common.{sym, ap, ◌∙◌, arith}
 use mathlib.Core.List.Memᴰ
-use Rattle.arena.specs.Slots.{colour, head, fresh, count, used, occupied}
+use Rattle.arena.specs.Slots.{colour, head, fresh, count, used}
 use Rattle.arena.specs.declared.Arena.{Arena}
 use Rattle.arena_laws.specs.Counts.{tally, tally_none, colours, occupied_is}
 use Rattle.arena_laws.specs.Chain.{WellFormed}

@@ -1,6 +1,5 @@
 -- Rows 1 and 8 of document 01, once for every call: what is answered, and what is changed. Assumes nothing.
-use Rattle.std.specs.Prelude.{◌≡◌, refl, true, false, List, ℕ, length}
-use Rattle.std.proofs.Common.{ap, ◌∙◌}
+use Rattle.std.specs.Prelude.{◌≡◌, true, false, List, ℕ, length}
 use borrow.Author.Tests.{eq-eqb, ne_eqb}
 use Rattle.base.specs.Ways.{if_eq}
 use Rattle.base.specs.Words.{at}
@@ -8,9 +7,8 @@ use Rattle.base.specs.Heap.{Heap, heap}
 use Rattle.layout.specs.Places.{DAMAGE}
 use Rattle.layout.specs.Layout.{lay_of}
 use Rattle.test1.specs.Test1.{sizes_at, accepted, opened}
-use Rattle.test1.specs.Calls.{call, call_marked, ask, unless_marked}
+use Rattle.test1.specs.Calls.{call, call_marked, ask}
 use Rattle.layout.specs.declared.Lay.{Lay}
-use Rattle.layout.specs.declared.Opened.{Opened}
 use Rattle.layout.specs.declared.Opened.TheVariants.{Fits, Refused}
 
 -- the three ways in which a call begins

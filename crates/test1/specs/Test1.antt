@@ -1,6 +1,6 @@
 -- Document 01, 'Refusal numbers', rows 1 and 8: what every call asks first, of the header and the two lengths alone.
 -- Assumes nothing.
-use Rattle.std.specs.Prelude.{◌≡◌, Bool, cond, ◌&&◌, List, [], ◌∷◌, ℕ, suc, ◌+◌, leb, eqb, length}
+use Rattle.std.specs.Prelude.{Bool, cond, ◌&&◌, List, [], ◌∷◌, ℕ, suc, ◌+◌, leb, eqb, length}
 use Rattle.base.specs.Words.{at}
 use Rattle.layout.specs.Table.{Row, ◌⊑◌, all}
 use Rattle.layout.specs.Places.{SIZES, PROTOTYPES, TOP, OPENS, CI, DAMAGE, PHASE, WHITE, TOTAL, GRAY, GRAYAGAIN, WEAK, QUEUE, STRINGS, TABLES, FUNCTIONS, UPVALUES, USERDATA, THREADS, HEADER}

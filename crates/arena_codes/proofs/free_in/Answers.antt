@@ -1,5 +1,4 @@
 -- `arena_codes::free_in` meets its contract: the callees' equations joined. Assumes nothing.
-use borrow.Author.Rules.{rules}
 use Rattle.arena_codes.specs.Codes.{free_in}
 use Rattle.arena_codes.proofs.free_in.Goals as goal
 

@@ -1,5 +1,4 @@
 -- `arena_codes::paint_in` meets its contract: the callees' equations joined. Assumes nothing.
-use borrow.Author.Rules.{rules}
 use Rattle.arena_codes.specs.Codes.{paint_in}
 use Rattle.arena_codes.proofs.paint_in.Goals as goal
 

@@ -1,5 +1,4 @@
 -- `arena_codes::sweep_in` meets its contract: the callees' equations joined. Assumes nothing.
-use borrow.Author.Rules.{rules}
 use Rattle.arena_codes.specs.Codes.{sweep_in}
 use Rattle.arena_codes.proofs.sweep_in.Goals as goal
 

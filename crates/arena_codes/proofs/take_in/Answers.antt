@@ -1,5 +1,4 @@
 -- `arena_codes::take_in` meets its contract: the callees' equations joined. Assumes nothing.
-use borrow.Author.Rules.{rules}
 use native.Mathlib.Omega.{arith}
 use Rattle.arena_codes.specs.Codes.{take_in}
 use Rattle.arena_codes.proofs.take_in.Goals as goal

@@ -1,5 +1,4 @@
 -- `arena_codes::tell` meets its contract: the callees' equations joined. Assumes nothing.
-use borrow.Author.Rules.{rules}
 use Rattle.arena_codes.proofs.tell.Goals as goal
 
 pub returns : goal.returns
