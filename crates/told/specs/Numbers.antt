@@ -2,7 +2,7 @@
 -- generation, a table's handle that may be missing as a presence, 0 or 1, and the handle. A tag above 8 and a presence above 1
 -- stand for nothing: 1 and 8 as every call, then 4, before all that the call itself tests. Assumes nothing.
 --     tagged-no, tagged-yes, optional-no, optional-yes     each way of the test by its fact
-use Rattle.std.specs.Prelude.{◌≡◌, refl, ℕ, ◌<◌, ◌≤◌}
+use Rattle.std.specs.Prelude.{◌≡◌, ℕ, ◌<◌, ◌≤◌}
 use Rattle.base.specs.Ways.{if_eq, if_lt, lt_yes, lt_no}
 use Rattle.base.specs.Heap.{Heap}
 use Rattle.test1.specs.Calls.{ask}

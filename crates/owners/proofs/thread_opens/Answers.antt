@@ -1,0 +1,8 @@
+-- `owners::thread_opens` meets its contract: the count as it is read, the rest within the record. Assumes nothing.
+use native.Mathlib.Omega.{arith}
+use Rattle.owners.specs.Owners.{thread_opens}
+use Rattle.owners.proofs.thread_opens.Goals as goal
+
+pub returns : goal.returns
+unfolding thread_opens
+returns c = (rw c.thread_open_count.ensures.0, record { word = omega (arith, c.requires); room = omega arith; fits = omega (arith, c.requires); count = c.thread_open_count.ensures.1 })
