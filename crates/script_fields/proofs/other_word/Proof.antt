@@ -1,0 +1,81 @@
+-- `script_fields::other_word` meets its contract: by the cases of its tests. Assumes nothing.
+use mathlib.Core.Path.{refl}
+use Rattle.script_fields.specs.Fields.{other_word}
+use borrow.Author.Rules.{rules}
+use Rattle.script_fields.proofs.other_word.Statement.{statement}
+use Rattle.script_fields.proofs.other_word.Tie as tie
+
+slice-aggregate-same-bytes : tie.Need-slice-aggregate-same-bytes
+slice-aggregate-same-bytes c = search rules
+
+same-bytes-requires : tie.Need-same-bytes-requires
+same-bytes-requires c κs = search rules
+
+returns : tie.Need-returns
+unfolding other_word
+returns c = rw (← c.before.same_bytes.ensures, c.if1.true)
+
+slice-aggregate-same-bytes-2 : tie.Need-slice-aggregate-same-bytes-2
+slice-aggregate-same-bytes-2 c = search rules
+
+same-bytes-requires-2 : tie.Need-same-bytes-requires-2
+same-bytes-requires-2 c κs = search rules
+
+returns-2 : tie.Need-returns-2
+unfolding other_word
+returns-2 c = rw (← c.before.before.before.before.same_bytes.ensures, c.before.before.before.if1.false, ← c.before.same-bytes2.ensures, c.if2.true)
+
+slice-aggregate-same-bytes-3 : tie.Need-slice-aggregate-same-bytes-3
+slice-aggregate-same-bytes-3 c = search rules
+
+same-bytes-requires-3 : tie.Need-same-bytes-requires-3
+same-bytes-requires-3 c κs = search rules
+
+returns-3 : tie.Need-returns-3
+unfolding other_word
+returns-3 c = rw (← c.before.before.before.before.before.before.before.same_bytes.ensures, c.before.before.before.before.before.before.if1.false, ← c.before.before.before.before.same-bytes2.ensures, c.before.before.before.if2.false, ← c.before.same-bytes3.ensures, c.if3.true)
+
+slice-aggregate-same-bytes-4 : tie.Need-slice-aggregate-same-bytes-4
+slice-aggregate-same-bytes-4 c = search rules
+
+same-bytes-requires-4 : tie.Need-same-bytes-requires-4
+same-bytes-requires-4 c κs = search rules
+
+returns-4 : tie.Need-returns-4
+unfolding other_word
+returns-4 c = rw (← c.before.before.before.before.before.before.before.before.before.before.same_bytes.ensures, c.before.before.before.before.before.before.before.before.before.if1.false, ← c.before.before.before.before.before.before.before.same-bytes2.ensures, c.before.before.before.before.before.before.if2.false, ← c.before.before.before.before.same-bytes3.ensures, c.before.before.before.if3.false, ← c.before.same-bytes4.ensures, c.if4.true)
+
+slice-aggregate-same-bytes-5 : tie.Need-slice-aggregate-same-bytes-5
+slice-aggregate-same-bytes-5 c = search rules
+
+same-bytes-requires-5 : tie.Need-same-bytes-requires-5
+same-bytes-requires-5 c κs = search rules
+
+returns-5 : tie.Need-returns-5
+unfolding other_word
+returns-5 c = rw (← c.before.before.before.before.before.before.before.before.before.before.before.before.before.same_bytes.ensures, c.before.before.before.before.before.before.before.before.before.before.before.before.if1.false, ← c.before.before.before.before.before.before.before.before.before.before.same-bytes2.ensures, c.before.before.before.before.before.before.before.before.before.if2.false, ← c.before.before.before.before.before.before.before.same-bytes3.ensures, c.before.before.before.before.before.before.if3.false, ← c.before.before.before.before.same-bytes4.ensures, c.before.before.before.if4.false, ← c.before.same-bytes5.ensures, c.if5.true)
+
+returns-6 : tie.Need-returns-6
+unfolding other_word
+returns-6 c = rw (← c.before.before.before.before.before.before.before.before.before.before.before.before.before.same_bytes.ensures, c.before.before.before.before.before.before.before.before.before.before.before.before.if1.false, ← c.before.before.before.before.before.before.before.before.before.before.same-bytes2.ensures, c.before.before.before.before.before.before.before.before.before.if2.false, ← c.before.before.before.before.before.before.before.same-bytes3.ensures, c.before.before.before.before.before.before.if3.false, ← c.before.before.before.before.same-bytes4.ensures, c.before.before.before.if4.false, ← c.before.same-bytes5.ensures, c.if5.false)
+
+pub other-word-spec : {M : Type 1} → statement M
+other-word-spec =
+    tie.close
+    (tie.spec
+    slice-aggregate-same-bytes
+    same-bytes-requires
+    returns
+    slice-aggregate-same-bytes-2
+    same-bytes-requires-2
+    returns-2
+    slice-aggregate-same-bytes-3
+    same-bytes-requires-3
+    returns-3
+    slice-aggregate-same-bytes-4
+    same-bytes-requires-4
+    returns-4
+    slice-aggregate-same-bytes-5
+    same-bytes-requires-5
+    returns-5
+    returns-6)
