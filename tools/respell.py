@@ -24,6 +24,7 @@ CALLS = "crates/made/specs/Made.antt"
 
 
 def snake(word):
+    word = word.replace("NaN", "Nan")
     word = re.sub(r"([a-z0-9])([A-Z])", r"\1_\2", word)
     word = re.sub(r"([A-Z]+)([A-Z][a-z])", r"\1_\2", word)
     return word.lower()

@@ -7,7 +7,7 @@ use Rattle.base.specs.Heap.{Heap}
 use Rattle.value.specs.declared.TableRef.{TableRef}
 use Rattle.value.specs.declared.Value.{Value}
 use Rattle.value.specs.declared.Value.TheVariants.{Nil, Boolean, Light, Number, Str, Table, Function, Userdata, Thread}
-use Rattle.value.specs.Numbers.{is_na_n}
+use Rattle.value.specs.Numbers.{is_nan}
 use Rattle.value.specs.Values.{is_nil, key_equal}
 use Rattle.layout.specs.declared.Lay.{Lay}
 use Rattle.record.specs.Tables.{node_count, node_key, set_node}
@@ -20,20 +20,20 @@ use Rattle.given.specs.Given.{is_sound}
 use Rattle.mark.specs.Words.{ops}
 use Rattle.propagate.specs.Barriers.{barrier_back}
 
-unfoldable pub is_na_n_key : Value → Bool
-is_na_n_key Nil = false
-is_na_n_key (Boolean b) = false
-is_na_n_key (Light x) = false
-is_na_n_key (Number x) = is_na_n x
-is_na_n_key (Str r) = false
-is_na_n_key (Table r) = false
-is_na_n_key (Function r) = false
-is_na_n_key (Userdata r) = false
-is_na_n_key (Thread r) = false
+unfoldable pub is_nan_key : Value → Bool
+is_nan_key Nil = false
+is_nan_key (Boolean b) = false
+is_nan_key (Light x) = false
+is_nan_key (Number x) = is_nan x
+is_nan_key (Str r) = false
+is_nan_key (Table r) = false
+is_nan_key (Function r) = false
+is_nan_key (Userdata r) = false
+is_nan_key (Thread r) = false
 
 -- A node has no NaN key, and no nil key with a value that is not nil. Nil for both is an empty node; a key with nil is allowed.
 unfoldable pub is_node : Value → Value → Bool
-is_node k v = cond (is_na_n_key k) false (cond (is_nil k) (is_nil v) true)
+is_node k v = cond (is_nan_key k) false (cond (is_nil k) (is_nil v) true)
 
 -- Node i is another node than j, and its key equals k: dead keys and keys that name nothing are keys; 0 equals -0.
 unfoldable pub is_twin : ℕ → ℕ → Value → List ℕ → ℕ → Bool

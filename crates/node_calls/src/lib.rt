@@ -6,7 +6,7 @@ ghost use Rattle.std.specs.Prelude.{◌≡◌, ◌+◌, ◌≤◌, ◌<◌, leng
 ghost use Rattle.layout.specs.Layout.{lay_of};
 ghost use Rattle.base.specs.Heap.{heap};
 ghost use Rattle.laid.specs.Laid.{Laid};
-ghost use Rattle.node_calls.specs.NodeCalls.{is_na_n_key, is_node, is_twin, is_taken, store_node, table_set_node_in, table_set_node};
+ghost use Rattle.node_calls.specs.NodeCalls.{is_nan_key, is_node, is_twin, is_taken, store_node, table_set_node_in, table_set_node};
 
 use arena::Named;
 use given::Served;
@@ -15,7 +15,7 @@ use value::{TableRef, Value};
 
 // Whether a key is NaN.
 fn is_nan_key(k: Value) -> bool
-    ensures { result ≡ is_na_n_key k }
+    ensures { result ≡ is_nan_key k }
 {
     match k {
         Value::Number(x) => value::is_nan(x),

@@ -11,8 +11,8 @@ abbrev pub infinity : ℕ
 infinity = 9218868437227405312
 
 -- NaN: exponent all ones and a mantissa that is not 0.
-abbrev pub is_na_n : ℕ → Bool
-is_na_n x = nat_lt infinity (magnitude x)
+abbrev pub is_nan : ℕ → Bool
+is_nan x = nat_lt infinity (magnitude x)
 
 -- Numbers as keys: NaN equals nothing; else equal bits are equal, and so are two zeros (0 equals -0).
 unfoldable pub same_number : ℕ → ℕ → Bool

@@ -4,7 +4,7 @@
 
 ghost use Rattle.std.specs.Prelude.{◌≡◌, ◌+◌, ◌<◌, length};
 ghost use Rattle.base.specs.Words.{put};
-ghost use Rattle.value.specs.Numbers.{is_na_n, same_number};
+ghost use Rattle.value.specs.Numbers.{is_nan, same_number};
 ghost use Rattle.value.specs.Values.{is_nil, tag_of, word_of, low_of, high_of, bits_of, value_of, value_at, put3, put_value, payload_equal, key_equal};
 ghost use Rattle.value.specs.Handles.{handle_of, handle_at, put_handle, table_in, table_or_at, put_table_or, str_in, str_or_at, put_str_or, ud_in, ud_or_at, put_ud_or};
 
@@ -283,7 +283,7 @@ pub fn write_ud_or(w: &mut [u32], p: usize, d: UdOr)
 
 // Exponent all ones, and a mantissa that is not 0.
 pub fn is_nan(bits: u64) -> bool
-    ensures { result ≡ is_na_n bits }
+    ensures { result ≡ is_nan bits }
 {
     9218868437227405312 < bits % 9223372036854775808
 }

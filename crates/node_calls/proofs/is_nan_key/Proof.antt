@@ -8,13 +8,13 @@ use borrow.Author.Rules.{rules}
 use Rattle.value.specs.contracts.Value.{the_type}
 use Rattle.value.specs.declared.Value.TheVariants.{Boolean, Function, Light, Nil, Number, Str, Table, Thread, Userdata}
 use Rattle.value.specs.declared.Value.{Value}
-use Rattle.node_calls.specs.NodeCalls.{is_na_n_key}
+use Rattle.node_calls.specs.NodeCalls.{is_nan_key}
 use Rattle.node_calls.proofs.is_nan_key.Statement.{statement}
 use Rattle.node_calls.proofs.is_nan_key.Tie as tie
 
 -- only a number is NaN
-inert : (k : Value) → OneOf (0 ∷ 1 ∷ 2 ∷ 4 ∷ 5 ∷ 6 ∷ 7 ∷ 8 ∷ []) (tag_of the_type k) → false ≡ is_na_n_key k
-unfolding is_na_n_key
+inert : (k : Value) → OneOf (0 ∷ 1 ∷ 2 ∷ 4 ∷ 5 ∷ 6 ∷ 7 ∷ 8 ∷ []) (tag_of the_type k) → false ≡ is_nan_key k
+unfolding is_nan_key
 inert Nil m = refl
 inert (Boolean x) m = refl
 inert (Light x) m = refl
@@ -32,7 +32,7 @@ is-nan-requires : tie.Need-is-nan-requires
 is-nan-requires c κs = search rules
 
 returns : tie.Need-returns
-unfolding is_na_n_key
+unfolding is_nan_key
 returns c = rw c.before.before.k.given.1 c.is_nan.ensures
 
 returns-2 : tie.Need-returns-2

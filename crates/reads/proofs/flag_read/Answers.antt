@@ -1,0 +1,9 @@
+-- `reads::flag_read` meets its contract: from what its callees promise. Assumes nothing.
+
+use Rattle.reads.proofs.flag_read.Goals as goal
+
+pub returns-then-b : goal.returns-then-b
+returns-then-b c = rw c.if-b.true
+
+pub returns-else-b : goal.returns-else-b
+returns-else-b c = rw c.if-b.false
