@@ -1,7 +1,6 @@
 -- Document 01, 'Sizes': the new heap, field by field. Every word and byte that the heap needs is 0 but for those written
 -- here; the rest of longer buffers is untouched. Assumes nothing.
-use Rattle.std.specs.Prelude.{◌≡◌, List, [], ◌∷◌, ℕ, ◌+◌, ◌*◌, ◌≤◌, length}
-use Rattle.std.proofs.Common.{arith}
+use Rattle.std.specs.Prelude.{List, [], ◌∷◌, ℕ, ◌+◌, ◌*◌, length}
 use Rattle.base.specs.Ways.{if_lt}
 use Rattle.base.specs.Words.{put, clear}
 use Rattle.base.specs.Heap.{Heap, heap}

@@ -8,8 +8,8 @@
 -- Assumes nothing.
 use Rattle.std.specs.Prelude.{◌≡◌, Bool, true, false, cond, List, [], ◌∷◌, ◌++◌, ℕ, suc, ◌+◌, ◌≤◌, ◌<◌, ltb, length, drop, set}
 use Rattle.std.proofs.Math.Path.{refl}
-use Rattle.std.proofs.Common.{sym, ◌∙◌, arith, drop_of_length-le, length-set, ltb-true, drop-cons}
-use Rattle.base.specs.Ways.{if_lt, if_eq, eq_yes, eq_no, eq_either}
+use Rattle.std.proofs.Common.{◌∙◌, arith, drop_of_length-le, length-set, ltb-true, drop-cons}
+use Rattle.base.specs.Ways.{if_lt, eq_yes, eq_no, eq_either}
 use Rattle.base.specs.Words.{at}
 use Rattle.script_bytes.specs.declared.Gathered.{Gathered}
 use Rattle.script_bytes.specs.Bytes.{kept, said, gather_on, gather}

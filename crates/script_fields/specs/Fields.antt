@@ -1,5 +1,5 @@
 -- The fields of a line, parted by exactly one space: a command word, or a number of decimal digits up to 2^32 - 1. Assumes nothing.
-use Rattle.std.specs.Prelude.{Bool, cond, List, [], ◌∷◌, ℕ, ◌+◌, ◌-◌, ◌*◌, ◌≤◌, length, take, drop}
+use Rattle.std.specs.Prelude.{cond, List, [], ◌∷◌, ℕ, ◌+◌, ◌-◌, ◌*◌, ◌≤◌, length, take, drop}
 use Rattle.base.specs.Ways.{if_lt, if_le, if_eq}
 use Rattle.base.specs.Words.{at}
 use Rattle.record.specs.Strings.{same_bytes}

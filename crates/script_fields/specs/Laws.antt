@@ -4,13 +4,12 @@
 --     number-again, number-end                              one more digit; the end of the line
 --     word-past                                             past the line there is no word
 -- Assumes nothing.
-use Rattle.std.specs.Prelude.{◌≡◌, List, [], ◌∷◌, ℕ, suc, ◌+◌, ◌-◌, ◌*◌, ◌≤◌, ◌<◌, length, take, drop}
+use Rattle.std.specs.Prelude.{◌≡◌, List, [], ◌∷◌, ℕ, suc, ◌+◌, ◌-◌, ◌*◌, ◌≤◌, ◌<◌, length, drop}
 use Rattle.std.proofs.Math.Path.{refl}
-use Rattle.std.proofs.Common.{sym, ◌∙◌, arith, drop_of_length-le, drop-cons}
-use Rattle.base.specs.Ways.{if_lt, if_le, if_eq, lt_yes, lt_no, eq_yes, eq_no}
+use Rattle.std.proofs.Common.{◌∙◌, arith, drop_of_length-le, drop-cons}
+use Rattle.base.specs.Ways.{if_lt, if_eq, lt_yes, lt_no, eq_yes, eq_no}
 use Rattle.base.specs.Words.{at}
 use Rattle.record.specs.Strings.{same_bytes}
-use Rattle.script_fields.specs.declared.Word.{Word}
 use Rattle.script_fields.specs.declared.Word.TheVariants as word
 use Rattle.script_fields.specs.declared.Field.{Field}
 use Rattle.script_fields.specs.declared.Field.TheVariants.{Last, Part, Bad}

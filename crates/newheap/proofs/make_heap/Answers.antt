@@ -1,5 +1,4 @@
 -- `newheap::make_heap` meets its contract: each way by its test. Assumes nothing.
-use borrow.Author.Rules.{rules}
 use mathlib.Core.Path.{refl}
 use native.Mathlib.Omega.{arith}
 use Rattle.base.specs.Ways.{lt_yes, lt_no}

@@ -1,5 +1,4 @@
 -- `newheap::put_arena_sizes` meets its contract: the callees' equations joined. Assumes nothing.
-use borrow.Author.Rules.{rules}
 use Rattle.newheap.specs.New.{arena_sizes}
 use Rattle.newheap.proofs.put_arena_sizes.Goals as goal
 

@@ -1,5 +1,4 @@
 -- `newheap::put_bytes` meets its contract: the callees' equations joined. Assumes nothing.
-use borrow.Author.Rules.{rules}
 use Rattle.newheap.specs.New.{new_bytes}
 use Rattle.newheap.proofs.put_bytes.Goals as goal
 

@@ -1,5 +1,4 @@
 -- `newheap::put_counters` meets its contract: the callees' equations joined. Assumes nothing.
-use borrow.Author.Rules.{rules}
 use Rattle.newheap.specs.New.{counters}
 use Rattle.newheap.proofs.put_counters.Goals as goal
 

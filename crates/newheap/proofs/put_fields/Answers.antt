@@ -1,5 +1,4 @@
 -- `newheap::put_fields` meets its contract: the callees' equations joined. Assumes nothing.
-use borrow.Author.Rules.{rules}
 use Rattle.newheap.specs.New.{fields}
 use Rattle.newheap.proofs.put_fields.Goals as goal
 

@@ -1,5 +1,4 @@
 -- `newheap::put_lengths` meets its contract: the callees' equations joined. Assumes nothing.
-use borrow.Author.Rules.{rules}
 use Rattle.newheap.specs.New.{lengths}
 use Rattle.newheap.proofs.put_lengths.Goals as goal
 

@@ -1,5 +1,4 @@
 -- `newheap::put_main_sizes` meets its contract: the callees' equations joined. Assumes nothing.
-use borrow.Author.Rules.{rules}
 use Rattle.newheap.specs.New.{main_sizes}
 use Rattle.newheap.proofs.put_main_sizes.Goals as goal
 

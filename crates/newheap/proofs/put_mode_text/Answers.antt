@@ -1,5 +1,4 @@
 -- `newheap::put_mode_text` meets its contract: the callees' equations joined. Assumes nothing.
-use borrow.Author.Rules.{rules}
 use Rattle.newheap.specs.New.{mode_text}
 use Rattle.newheap.proofs.put_mode_text.Goals as goal
 

@@ -1,5 +1,4 @@
 -- `newheap::put_names` meets its contract: the callees' equations joined. Assumes nothing.
-use borrow.Author.Rules.{rules}
 use Rattle.newheap.specs.New.{names}
 use Rattle.newheap.proofs.put_names.Goals as goal
 

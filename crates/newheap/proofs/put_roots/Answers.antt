@@ -1,5 +1,4 @@
 -- `newheap::put_roots` meets its contract: the callees' equations joined. Assumes nothing.
-use borrow.Author.Rules.{rules}
 use Rattle.newheap.specs.New.{roots}
 use Rattle.newheap.proofs.put_roots.Goals as goal
 

@@ -1,5 +1,4 @@
 -- `newheap::put_settings` meets its contract: the callees' equations joined. Assumes nothing.
-use borrow.Author.Rules.{rules}
 use Rattle.newheap.specs.New.{settings}
 use Rattle.newheap.proofs.put_settings.Goals as goal
 

@@ -1,5 +1,4 @@
 -- `newheap::put_tables` meets its contract: the callees' equations joined. Assumes nothing.
-use borrow.Author.Rules.{rules}
 use Rattle.newheap.specs.New.{tables}
 use Rattle.newheap.proofs.put_tables.Goals as goal
 

@@ -1,5 +1,4 @@
 -- `newheap::put_two_marks` meets its contract: the callees' equations joined. Assumes nothing.
-use borrow.Author.Rules.{rules}
 use Rattle.newheap.specs.New.{two_marks}
 use Rattle.newheap.proofs.put_two_marks.Goals as goal
 

@@ -1,5 +1,4 @@
 -- `newheap::put_words` meets its contract: the callees' equations joined. Assumes nothing.
-use borrow.Author.Rules.{rules}
 use Rattle.newheap.specs.New.{new_words}
 use Rattle.newheap.proofs.put_words.Goals as goal
 
