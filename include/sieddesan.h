@@ -5,8 +5,8 @@
  * the slices of one call must not overlap. Beyond this no call requires anything: whatever the buffers hold, it answers.
  *
  * The functions are in seven archives, which link together in any order: libengine.a, libmake_engine.a, libstore_engine.a,
- * libmain_engine.a, libthread_engine.a, libstep_engine.a and libaudit_engine.a (`rt staticlib engine` and so on writes them to
- * target/staticlib).
+ * libmain_engine.a, libthread_engine.a, libstep_engine.a and libaudit_engine.a (`rt lib` in crates/engine writes
+ * crates/engine/out/libengine.a, and so for the others).
  *
  * Every function answers a code: 0, or the number of a refusal. Words lent as `out` hold the rest of the answer where the code
  * is 0; they stay as they were where it is not.

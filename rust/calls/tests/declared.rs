@@ -51,13 +51,14 @@ fn rattle_types(parameter: &str) -> Signature {
 fn exported(source: &str) -> Functions {
     let mut found = Functions::new();
     let mut rest = source;
-    while let Some((name, after)) = between(rest, "#[no_mangle]\npub extern \"C\" fn ", "(") {
+    while let Some((name, after)) = between(rest, "#[unsafe(no_mangle)]\npub extern \"C\" fn ", "(")
+    {
         let (list, after) = after.split_once(") -> u32").expect("a code is answered");
         let types = parameters(list).flat_map(rattle_types).collect();
         found.insert(name.to_owned(), types);
         rest = after;
     }
-    let marks = source.matches("#[no_mangle]").count();
+    let marks = source.matches("#[unsafe(no_mangle)]").count();
     assert_eq!(found.len(), marks, "every marked function is read");
     found
 }
@@ -185,7 +186,7 @@ fn the_rust_declarations_are_those_of_the_source() {
 #[test]
 fn the_archives_offer_these_functions_and_no_more() {
     for (name, functions) in crates() {
-        let offered = symbols(&format!("target/staticlib/lib{name}.a"));
+        let offered = symbols(&format!("crates/{name}/out/lib{name}.a"));
         let source: Vec<String> = functions.into_keys().collect();
         assert_eq!(offered, source, "lib{name}.a");
     }

@@ -5,15 +5,16 @@
 
 use std::path::Path;
 
-/// Links the library of a crate: `rt staticlib NAME` writes it below the repository's target folder.
+/// Links the library of a crate: `rt lib` in the crate's folder writes it to the folder out there.
 pub fn link(name: &str) {
-    let folder = Path::new(env!("CARGO_MANIFEST_DIR")).join("../../target/staticlib");
+    let folder = Path::new(env!("CARGO_MANIFEST_DIR"))
+        .join("../../crates")
+        .join(name)
+        .join("out");
     let archive = folder.join(format!("lib{name}.a"));
     println!("cargo::rerun-if-changed={}", archive.display());
     if !archive.exists() {
-        println!(
-            "cargo::error=no lib{name}.a: run `rt staticlib {name}` at the repository's root first"
-        );
+        println!("cargo::error=no lib{name}.a: run `rt lib` in crates/{name} first");
     }
     println!("cargo::rustc-link-search=native={}", folder.display());
     println!("cargo::rustc-link-lib=static={name}");

@@ -4,7 +4,7 @@
 //! [`oracle::heapscript`] prints, [`random`] does so for random scripts and [`stored`] for the
 //! examples of the repository; [`shrink`] makes a short script of one that differs.
 //!
-//! `rt check heapscript` at the repository's root builds the program; then, in rust/,
+//! `rt run </dev/null` in crates/heapscript builds the program; then, in rust/,
 //! `cargo run --offline --release -p script --bin compare_scripts 1000 1`.
 
 #![forbid(unsafe_code)]

@@ -36,11 +36,11 @@ impl Compiled {
         Self { path, arguments }
     }
 
-    /// The proved program, where `rt check heapscript` writes it.
+    /// The proved program, where `rt run` in crates/heapscript leaves it.
     #[must_use]
     pub fn heapscript() -> Self {
         let root = Path::new(env!("CARGO_MANIFEST_DIR")).join("../..");
-        Self::new(root.join("target/bin/heapscript"), Vec::new())
+        Self::new(root.join("crates/heapscript/out/heapscript"), Vec::new())
     }
 
     fn run(&self, script: &[u8]) -> io::Result<Ended> {

@@ -222,7 +222,8 @@ impl fmt::Display for Shrunk {
         for line in heapscript::lines(&self.script) {
             writeln!(f, "  {}", line.escape_ascii())?;
         }
-        writeln!(f, "printf {} | target/bin/heapscript", quoted(&self.script))?;
+        let printed = quoted(&self.script);
+        writeln!(f, "printf {printed} | crates/heapscript/out/heapscript")?;
         self.difference.fmt(f)
     }
 }

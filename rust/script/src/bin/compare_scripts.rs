@@ -3,7 +3,7 @@
 //! with a seed of its own, the first one the seed given, and on one that makes more objects than
 //! there are numbers. A difference is named and shrunk.
 //! `compare_scripts [--stored [PROGRAM ARGUMENTS..]]`: on the stored examples, held to the files.
-//! The program is target/bin/heapscript, which `rt check heapscript` makes, unless one is given.
+//! The program is crates/heapscript/out/heapscript, which `rt run` makes there, unless one is given.
 
 use script::program::Compiled;
 use script::{random, stored};
