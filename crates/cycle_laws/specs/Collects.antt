@@ -1,9 +1,9 @@
 -- A collection by single steps, from Pause to the first state whose phase is SweepString: what is in the old white then is exactly
 -- what is to be freed, and no damage is marked. Assumes nothing.
---     started-ok, started-noted     the first single step: the roots are marked
---     started-marked                marked is reached, as marked-exact, from the first single step on
---     started-exact, started-whole  the atomic phase, as atomic-exact and atomic-whole
---     collected, planned-collected     the single steps from Pause up to the atomic step; for the layout of any sizes
+--     started_ok, started_noted     the first single step: the roots are marked
+--     started_marked                marked is reached, as marked_exact, from the first single step on
+--     started_exact, started_whole  the atomic phase, as atomic_exact and atomic_whole
+--     collected, planned_collected     the single steps from Pause up to the atomic step; for the layout of any sizes
 use Rattle.std.specs.Prelude.{◌≡◌, ◌⊎◌, ◌↔◌, ◌≢◌, ℕ, min, ◌+◌, ◌≤◌, ◌<◌, length}
 use Rattle.std.proofs.Math.Path.{sym, subst}
 use Rattle.std.proofs.Common.{ap, ◌∙◌, arith, length-set}

@@ -1,7 +1,7 @@
 -- What the moves of marking leave, and how they change colours: proved once, of all of them. Assumes nothing.
 --     Untouched         the places that no move writes
 --     Marked            words as long as before, every untouched word as it was, every colour the same or risen
---     moves-marked      all that Moves allows is that
+--     moves_marked      all that Moves allows is that
 use Rattle.std.specs.Prelude.{◌≡◌, ◌⊎◌, ◌≢◌}
 use Rattle.std.proofs.Math.Path.{refl}
 use Rattle.std.proofs.Common.{sym, ap, subst, ◌∙◌, inl, inr, arith, get_or-set_same, get_or-set_other}

@@ -1,9 +1,9 @@
 -- A collection starts within the rooms, whatever the words hold: the lists are emptied and the roots marked, which leaves the
 -- damage mark as it was, and room in grayagain for the main thread. Assumes nothing.
 --     Rooms, rooms        the rooms that the lists have beside the slots; the layout of any sizes has them
---     cleared-empty       after the clearing the three lists are empty, and the damage mark is as it was
---     start-roomy         after the roots the lists are within their rooms, and the damage mark is as it was
---     main-roomy          the main thread's traversal keeps that
+--     cleared_empty       after the clearing the three lists are empty, and the damage mark is as it was
+--     start_roomy         after the roots the lists are within their rooms, and the damage mark is as it was
+--     main_roomy          the main thread's traversal keeps that
 use Rattle.std.specs.Prelude.{◌≡◌, refl, List, ◌≢◌, ℕ, min, ◌+◌, ◌≤◌, ◌<◌, length}
 use Rattle.std.proofs.Common.{sym, subst, ◌∙◌, inl, arith}
 use Rattle.std.proofs.Math.Path.{ap}
