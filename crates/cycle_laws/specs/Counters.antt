@@ -39,7 +39,8 @@ use Rattle.reach.specs.OnLists.{on_same}
 use Rattle.reach.specs.Shades.{shade_alike}
 use Rattle.reach.specs.Oks.{Again, Ok}
 use Rattle.atomic_laws.specs.Notes.{Noted}
-use Rattle.atomic_laws.specs.Alikes.{Alike, reach_alike, occupied_in}
+use Rattle.atomic_laws.specs.Alikes.{Alike}
+use Rattle.atomic_laws.proofs.Alikes.{reach_alike, occupied_in}
 
 -- The words with another number in one place.
 abbrev pub stored : ℕ → ℕ → List ℕ → List ℕ

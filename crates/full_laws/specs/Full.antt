@@ -26,12 +26,13 @@ use Rattle.layout.specs.Layout.{lay_of}
 use Rattle.layout.specs.Places.{PHASE, WHITE, CURSOR_ARENA, CURSOR_SLOT, TOTAL, THRESHOLD, DEBT, INTERRUPTED, OUT, REMAINING}
 use Rattle.lists.specs.declared.Popped.{Popped}
 use Rattle.lists.specs.Lists.{length_of}
-use Rattle.lists.specs.Laws.{pop_none}
+use Rattle.lists.proofs.Laws.{pop_none}
 use Rattle.laid.specs.Laid.{Laid, laid_of}
 use Rattle.mark.specs.Words.{ops}
 use Rattle.propagate.specs.Roots.{clear_lists}
 use Rattle.mark_laws.specs.Apart.{Apart, apart, Order, order}
-use Rattle.room_laws.specs.Tallies.{Ample, ample}
+use Rattle.room_laws.specs.Tallies.{Ample}
+use Rattle.room_laws.proofs.Tallies.{ample}
 use Rattle.reach.specs.Cycle.{AllWhite}
 use Rattle.atomic_laws.specs.Bodies.{Bodies, bodies}
 use Rattle.sweep_step.specs.Cursor.{start, put_cursor}

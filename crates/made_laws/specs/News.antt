@@ -27,7 +27,7 @@ use Rattle.laid.specs.Laid.{Laid, laid_of}
 use Rattle.newheap.specs.New.{arena_sizes, main_sizes, settings, counters, roots, two_marks, two_extents, lengths, table_sizes, names, tables, fields, new_words, mode_text, gc_text, new_bytes}
 use Rattle.mark.specs.Words.{arena_of}
 use Rattle.mark_laws.specs.Apart.{Apart, apart, Order, order, arena_before, arena_header, arena_lists}
-use Rattle.room_laws.specs.Queues.{queue_count}
+use Rattle.room_laws.proofs.Queues.{queue_count}
 use Rattle.sweep_laws.specs.Places.{Rows, rows, top_is}
 use Rattle.sweep_laws.specs.Turns.{Arenas}
 use Rattle.state_laws.specs.State.{State}

@@ -21,7 +21,7 @@ use Rattle.mark.specs.Words.{arena_of, colour_w}
 use Rattle.mark_laws.specs.Apart.{Apart, apart, Order, order, arena_kind}
 use Rattle.mark_laws.specs.Colours.{shade_parts}
 use Rattle.reach.specs.Cycle.{AllWhite}
-use Rattle.atomic_laws.specs.Dues.{shade_colour}
+use Rattle.atomic_laws.proofs.Dues.{shade_colour}
 use Rattle.sweep_laws.specs.Turns.{Arenas}
 use Rattle.sweep_laws.specs.Collections.{Collection, planned_freed}
 use Rattle.sweep_laws.specs.Mixtures.{Outcome}

@@ -29,7 +29,8 @@ use Rattle.steps.specs.Steps.{is_out, stepped, single_in, budget_in, auto_in, gc
 use Rattle.lists.specs.Lists.{length_of}
 use Rattle.laid.specs.Laid.{Laid, laid_of}
 use Rattle.mark_laws.specs.Apart.{Apart, apart}
-use Rattle.room_laws.specs.Tallies.{Ample, ample}
+use Rattle.room_laws.specs.Tallies.{Ample}
+use Rattle.room_laws.proofs.Tallies.{ample}
 use Rattle.reach.specs.Cycle.{AllWhite}
 use Rattle.atomic_laws.specs.Bodies.{Bodies, bodies}
 use Rattle.cycle_laws.specs.Singles.{singles}

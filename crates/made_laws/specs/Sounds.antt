@@ -18,7 +18,8 @@ use Rattle.newheap.specs.New.{new_heap, made_in, make_heap}
 use Rattle.made.specs.Made.{Call, Call-make_string, Call-make_table, Call-make_proto, Call-make_lua_closure, Call-make_rust_closure, Call-make_open_upvalue, Call-make_closed_upvalue, Call-make_userdata, Call-make_thread, Call-table_set, Call-table_set_node, Call-table_set_meta, Call-upvalue_close, Call-upvalue_set, Call-ud_set_meta, Call-ud_set_env, Call-thread_push, Call-thread_pop, Call-thread_set, Call-thread_set_top, Call-thread_open_push, Call-thread_open_cut, Call-thread_suspended_push, Call-thread_suspended_cut, Call-thread_set_global, Call-thread_set_error, Call-thread_set_hook, Call-push_value, Call-pop_value, Call-stack_set, Call-set_top, Call-open_push, Call-open_cut, Call-set_frame, Call-set_ci, Call-set_error, Call-set_hook, Call-set_type_meta, Call-gc_singlestep, Call-gc_step, Call-gc_step_auto, Call-full_gc, Call-gc_check, Call-finish_with, Call-set_pause, Call-set_stepmul, Call-set_limit, called, Made, new, after}
 use Rattle.mark_laws.specs.Apart.{Apart, apart}
 use Rattle.laid.specs.Laid.{Laid, laid_of}
-use Rattle.room_laws.specs.Tallies.{Ample, ample}
+use Rattle.room_laws.specs.Tallies.{Ample}
+use Rattle.room_laws.proofs.Tallies.{ample}
 use Rattle.atomic_laws.specs.Bodies.{Bodies, bodies}
 use Rattle.sweep_laws.specs.Places.{Rows, rows}
 use Rattle.state_laws.specs.State.{State}

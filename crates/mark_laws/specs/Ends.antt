@@ -19,7 +19,7 @@ use Rattle.lists.specs.declared.Item.{Item}
 use Rattle.lists.specs.declared.Item.TheVariants.{Table, Function, Userdata, Thread, Main, Unknown}
 use Rattle.lists.specs.declared.Popped.{Popped}
 use Rattle.lists.specs.Lists.{length_of, item_at, push, taken, pop}
-use Rattle.lists.specs.Laws.{push_kept, pop_none, pop_some, pop_length}
+use Rattle.lists.proofs.Laws.{push_kept, pop_none, pop_some, pop_length}
 use Rattle.record.specs.Fields.{body_at}
 use Rattle.record.specs.Tables.{table_meta}
 use Rattle.laid.specs.Laid.{Laid, gray_room_lem}

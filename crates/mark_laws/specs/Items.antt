@@ -15,7 +15,8 @@ use Rattle.lists.specs.declared.Item.{Item}
 use Rattle.lists.specs.declared.Item.TheVariants.{Table, Function, Userdata, Thread, Main, Unknown}
 use Rattle.lists.specs.declared.Popped.{Popped}
 use Rattle.lists.specs.Lists.{damage, RoomFor, kind_of, index_of, generation_of, item_of, put_item, length_of, place, stored, push, taken}
-use Rattle.lists.specs.Laws.{Apart, stored_kept, push_stored, push_full, push_length, push_full_length, taken_kept, pop_some, pop_length}
+use Rattle.lists.specs.Laws.{Apart}
+use Rattle.lists.proofs.Laws.{stored_kept, push_stored, push_full, push_length, push_full_length, taken_kept, pop_some, pop_length}
 
 -- 1 for yes, 0 for no
 abbrev pub one : Bool → ℕ

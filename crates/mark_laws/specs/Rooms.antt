@@ -14,7 +14,7 @@ use Rattle.lists.specs.declared.Item.{Item}
 use Rattle.lists.specs.declared.Item.TheVariants.{Table, Function, Userdata, Thread, Main, Unknown}
 use Rattle.lists.specs.declared.Popped.{Popped}
 use Rattle.lists.specs.Lists.{damage, kind_of, item_in, length_of, place, item_at, taken, pop}
-use Rattle.lists.specs.Laws.{item_found, pop_some, pop_length, pop_kept}
+use Rattle.lists.proofs.Laws.{item_found, pop_some, pop_length, pop_kept}
 use Rattle.lists.specs.Laws as lists
 use Rattle.record.specs.Fields.{body_at}
 use Rattle.laid.specs.Laid.{Laid, gray_room_lem}

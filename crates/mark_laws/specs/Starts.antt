@@ -13,7 +13,7 @@ use Rattle.layout.specs.declared.Lay.{Lay}
 use Rattle.layout.specs.Layout.{lay_of}
 use Rattle.lists.specs.declared.Item.TheVariants.{Main}
 use Rattle.lists.specs.Lists.{damage, length_of, push, cleared}
-use Rattle.lists.specs.Laws.{push_kept, push_length, push_unmarked, cleared_length, cleared_kept}
+use Rattle.lists.proofs.Laws.{push_kept, push_length, push_unmarked, cleared_length, cleared_kept}
 use Rattle.lists.specs.Laws as lists
 use Rattle.laid.specs.Laid.{Laid, gray_room_lem}
 use Rattle.mark.specs.Ops.{Work, gray, grayagain, weak}

@@ -17,7 +17,7 @@ use Rattle.layout.specs.declared.Lay.{Lay}
 use Rattle.lists.specs.declared.Item.{Item}
 use Rattle.lists.specs.declared.Item.TheVariants.{Table, Thread, Main}
 use Rattle.lists.specs.Lists.{damage, RoomFor, length_of, push}
-use Rattle.lists.specs.Laws.{push_kept, push_length, push_full_length, push_unmarked}
+use Rattle.lists.proofs.Laws.{push_kept, push_length, push_full_length, push_unmarked}
 use Rattle.lists.specs.Laws as lists
 use Rattle.record.specs.Fields.{body_at}
 use Rattle.record.specs.Tables.{table_meta}

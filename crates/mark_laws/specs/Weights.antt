@@ -20,7 +20,7 @@ use Rattle.layout.specs.declared.Lay.{Lay}
 use Rattle.lists.specs.declared.Item.{Item}
 use Rattle.lists.specs.declared.Item.TheVariants as item
 use Rattle.lists.specs.Lists.{damage, kind_of, length_of, push}
-use Rattle.lists.specs.Laws.{push_length, push_full_length, push_unmarked, push_kept}
+use Rattle.lists.proofs.Laws.{push_length, push_full_length, push_unmarked, push_kept}
 use Rattle.lists.specs.Laws as lists
 use Rattle.record.specs.Fields.{body_at}
 use Rattle.record.specs.Userdata.{ud_meta, ud_env}

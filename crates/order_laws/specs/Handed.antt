@@ -25,7 +25,7 @@ use Rattle.layout.specs.Places.{PHASE, WHITE, CURSOR_ARENA, CURSOR_SLOT, TOTAL, 
 use Rattle.lists.specs.declared.Item.{Item}
 use Rattle.lists.specs.declared.Item.TheVariants.{Userdata}
 use Rattle.lists.specs.Lists.{index_of, generation_of, item_in, length_of, place, cleared}
-use Rattle.lists.specs.Laws.{item_three, cleared_kept}
+use Rattle.lists.proofs.Laws.{item_three, cleared_kept}
 use Rattle.record.specs.Fields.{body_at}
 use Rattle.laid.specs.Laid.{Laid, weak_room_lem, laid_of}
 use Rattle.mark.specs.Ops.{Ref, ref, other_white}
@@ -38,23 +38,26 @@ use Rattle.step.specs.Step.{start_cycle}
 use Rattle.mark_laws.specs.Apart.{Apart, Order, order, apart}
 use Rattle.mark_laws.specs.Changes.{tops, past}
 use Rattle.mark_laws.specs.Stays.{below}
-use Rattle.room_laws.specs.Tallies.{Ample, ample}
-use Rattle.room_laws.specs.Payments.{whole_long}
-use Rattle.room_laws.specs.Queues.{queue_count}
+use Rattle.room_laws.specs.Tallies.{Ample}
+use Rattle.room_laws.proofs.Tallies.{ample}
+use Rattle.room_laws.proofs.Payments.{whole_long}
+use Rattle.room_laws.proofs.Queues.{queue_count}
 use Rattle.room_laws.specs.Flips.{Low, low_none, cleared_low}
 use Rattle.reach.specs.Reached.{Occupied, Root}
 use Rattle.reach.specs.Cycle.{AllWhite, advances}
 use Rattle.reach.specs.Oks.{Ok}
-use Rattle.reach.specs.Exact.{None, marked_ok}
+use Rattle.reach.specs.Exact.{None}
+use Rattle.reach.proofs.Exact.{marked_ok}
 use Rattle.atomic_laws.specs.Kept.{Due}
 use Rattle.atomic_laws.specs.Bodies.{Bodies, bodies}
-use Rattle.atomic_laws.specs.Alikes.{Alike, due_alike, alike_back}
+use Rattle.atomic_laws.specs.Alikes.{Alike}
+use Rattle.atomic_laws.proofs.Alikes.{due_alike, alike_back}
 use Rattle.atomic_laws.specs.Notes.{Noted}
-use Rattle.atomic_laws.specs.Notings.{marked_noted}
+use Rattle.atomic_laws.proofs.Notings.{marked_noted}
 use Rattle.atomic_laws.specs.Separates.{Sorted, handle}
-use Rattle.atomic_laws.specs.Dues.{due_handle, handle_due}
-use Rattle.atomic_laws.specs.Spares.{keep_all_lem}
-use Rattle.atomic_laws.specs.Survives.{done, F_long, G_long, H_long}
+use Rattle.atomic_laws.proofs.Dues.{due_handle, handle_due}
+use Rattle.atomic_laws.proofs.Spares.{keep_all_lem}
+use Rattle.atomic_laws.proofs.Survives.{done, F_long, G_long, H_long}
 use Rattle.cycle_laws.specs.Counters.{stored, phase_counter, stored_alike, stored_word, stored_white}
 use Rattle.cycle_laws.specs.Singles.{singles}
 use Rattle.cycle_laws.specs.Collects.{frame_one, steps_ok, steps_noted, none_v}
@@ -65,7 +68,7 @@ use Rattle.sweep_laws.specs.Collections as collection
 use Rattle.manual.specs.Manual.{ToFinalize, LastFirst, LastFirst-none, LastFirst-next, Calls}
 use Rattle.manual.specs.Instance.{Object}
 use Rattle.manual.specs.Instance as manual
-use Rattle.manual.specs.Agrees.{finalize_exact}
+use Rattle.manual.proofs.Agrees.{finalize_exact}
 use Rattle.order_laws.specs.Orders.{created, Before, slot_of, Ordered, separated_ordered}
 use Rattle.order_laws.specs.Hands.{back_items, handable, outs, finalize_hands}
 

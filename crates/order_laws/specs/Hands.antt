@@ -27,7 +27,7 @@ use Rattle.lists.specs.declared.Item.TheVariants.{Table, Function, Userdata, Thr
 use Rattle.lists.specs.declared.Popped.{Popped}
 use Rattle.lists.specs.declared.Popped.TheVariants.{Got}
 use Rattle.lists.specs.Lists.{item_in, length_of, place, item_at, taken, pop}
-use Rattle.lists.specs.Laws.{item_three, item_found, pop_some, pop_length, pop_long, pop_kept, taken_kept}
+use Rattle.lists.proofs.Laws.{item_three, item_found, pop_some, pop_length, pop_long, pop_kept, taken_kept}
 use Rattle.record.specs.Fields.{body_at}
 use Rattle.record.specs.Userdata.{ud_meta}
 use Rattle.laid.specs.Laid.{Laid, queue_room_lem}
@@ -41,7 +41,7 @@ use Rattle.link_laws.specs.Agrees.{Agree, table_same}
 use Rattle.link_laws.specs.Reads.{Reads, gc_method_same}
 use Rattle.mark_laws.specs.Apart.{Apart, Order, order, arena_header, arena_lists}
 use Rattle.mark_laws.specs.Colours.{named_shade}
-use Rattle.room_laws.specs.Queues.{queue_count}
+use Rattle.room_laws.proofs.Queues.{queue_count}
 use Rattle.reach.specs.Shades.{shade_alike}
 use Rattle.sweep_laws.specs.Finalizes.{finalize_step_lem}
 

@@ -24,7 +24,7 @@ use Rattle.layout.specs.Places.{WHITE}
 use Rattle.lists.specs.declared.Item.{Item}
 use Rattle.lists.specs.declared.Item.TheVariants.{Table, Function, Userdata, Thread, Main, Unknown}
 use Rattle.lists.specs.Lists.{damage, kind_of, index_of, generation_of, item_in, length_of, place, item_at, put_item, push}
-use Rattle.lists.specs.Laws.{item_three, item_found, push_kept}
+use Rattle.lists.proofs.Laws.{item_three, item_found, push_kept}
 use Rattle.record.specs.Fields.{body_at}
 use Rattle.record.specs.Userdata.{ud_creation, set_ud_finalized}
 use Rattle.laid.specs.Laid.{Laid, userdata_words, queue_room_lem}
@@ -33,14 +33,14 @@ use Rattle.mark.specs.Words.{shade, colour_w}
 use Rattle.separate.specs.Separation.{is_due, of_userdata, creation_of, creation_at, shifts, shifted, queued, enqueue, separate_slot, separated}
 use Rattle.mark_laws.specs.Apart.{Apart, Order, order}
 use Rattle.room_laws.specs.Tallies.{Ample}
-use Rattle.room_laws.specs.Walks.{run_along}
-use Rattle.room_laws.specs.Queues.{queue_count}
+use Rattle.room_laws.proofs.Walks.{run_along}
+use Rattle.room_laws.proofs.Queues.{queue_count}
 use Rattle.reach.specs.Shades.{shade_alike}
 use Rattle.atomic_laws.specs.InQueue.{item_apart, v_item, v_long, v_length, queued_length, queued_place, queued_outside}
 use Rattle.atomic_laws.specs.InQueue as queue
 use Rattle.atomic_laws.specs.Bodies.{Bodies, body_next}
 use Rattle.atomic_laws.specs.Separates.{handle, Sorted, due_same, slot_sorted, first_sorted}
-use Rattle.atomic_laws.specs.Dues.{shade_colour}
+use Rattle.atomic_laws.proofs.Dues.{shade_colour}
 
 -- the creation number of the userdata in slot i
 abbrev pub created : Lay → List ℕ → ℕ → ℕ

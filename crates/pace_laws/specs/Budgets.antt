@@ -24,7 +24,8 @@ use Rattle.layout.specs.Places.{PHASE, TOTAL, THRESHOLD, DEBT, INTERRUPTED, OUT,
 use Rattle.lists.specs.Lists.{length_of}
 use Rattle.laid.specs.Laid.{Laid, laid_of}
 use Rattle.mark_laws.specs.Apart.{Apart, apart}
-use Rattle.room_laws.specs.Tallies.{Ample, ample}
+use Rattle.room_laws.specs.Tallies.{Ample}
+use Rattle.room_laws.proofs.Tallies.{ample}
 use Rattle.reach.specs.Cycle.{AllWhite}
 use Rattle.atomic_laws.specs.Bodies.{Bodies, bodies}
 use Rattle.accounts.specs.declared.Answer.{Answer}

@@ -20,8 +20,9 @@ use Rattle.layout.specs.Places.{PHASE}
 use Rattle.lists.specs.Lists.{length_of}
 use Rattle.laid.specs.Laid.{Laid, laid_of}
 use Rattle.mark_laws.specs.Apart.{Apart, apart}
-use Rattle.room_laws.specs.Tallies.{Ample, ample}
-use Rattle.room_laws.specs.Queues.{queue_count}
+use Rattle.room_laws.specs.Tallies.{Ample}
+use Rattle.room_laws.proofs.Tallies.{ample}
+use Rattle.room_laws.proofs.Queues.{queue_count}
 use Rattle.reach.specs.Cycle.{AllWhite}
 use Rattle.atomic_laws.specs.Bodies.{Bodies, bodies}
 use Rattle.propagate.specs.Propagation.{rounds}

@@ -22,7 +22,7 @@ use Rattle.mark_laws.specs.Changes.{counters, colour_in}
 use Rattle.mark_laws.specs.Whites.{whites_to, whites_of}
 use Rattle.mark_laws.specs.Weights.{weight, weight_most}
 use Rattle.room_laws.specs.Tallies.{Ample}
-use Rattle.room_laws.specs.Payments.{whole_long}
+use Rattle.room_laws.proofs.Payments.{whole_long}
 use Rattle.reach.specs.Cycle.{AllWhite, advanced}
 use Rattle.atomic_laws.specs.Bodies.{Bodies}
 use Rattle.cycle_laws.specs.Singles.{start_step, gray_step, atomic_step, started_phase, advanced_marked, advanced_less}

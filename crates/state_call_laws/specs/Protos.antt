@@ -30,7 +30,7 @@ use Rattle.making.specs.Turns.{each_holds}
 use Rattle.make_protos.specs.Making.{differs, is_first, can_nest, are_nestable, nest_one, put_nested, put_proto}
 use Rattle.mark.specs.Words.{arena_of}
 use Rattle.mark_laws.specs.Apart.{Apart, Order, order}
-use Rattle.room_laws.specs.Walks.{run_along}
+use Rattle.room_laws.proofs.Walks.{run_along}
 use Rattle.sweep_laws.specs.Places.{Rows, top_is}
 use Rattle.state_laws.specs.State.{Nested, State, sum_same, calm_state}
 use Rattle.state_laws.specs.Plains.{Looked, sizes, marks, cells, Nearly, nearly_calm, calm_none}

@@ -44,15 +44,17 @@ use Rattle.room_laws.specs.Counts.{is_gray, is_dark}
 use Rattle.room_laws.specs.Frames.{OnList, Quiet, quiet_paid}
 use Rattle.room_laws.specs.Tallies.{Ample}
 use Rattle.room_laws.specs.Payments.{Whole}
-use Rattle.room_laws.specs.Steps.{whole_less, mains_due, one_whole, main_whole}
-use Rattle.room_laws.specs.Cycles.{roots_whole}
-use Rattle.room_laws.specs.Queues.{queue_count}
+use Rattle.room_laws.specs.Steps.{mains_due}
+use Rattle.room_laws.proofs.Steps.{whole_less, one_whole, main_whole}
+use Rattle.room_laws.proofs.Cycles.{roots_whole}
+use Rattle.room_laws.proofs.Queues.{queue_count}
 use Rattle.room_laws.specs.Flips.{Low, low_none, cleared_low}
-use Rattle.room_laws.specs.Atomics.{atomic_whole}
+use Rattle.room_laws.proofs.Atomics.{atomic_whole}
 use Rattle.atomic_laws.specs.Bodies.{Bodies}
 use Rattle.atomic_laws.specs.Separates.{Sorted, separated_sorted}
-use Rattle.atomic_laws.specs.Spares.{whitens, Tinted, held, keep_all_lem}
-use Rattle.atomic_laws.specs.Survives.{other_white_lem}
+use Rattle.atomic_laws.specs.Spares.{whitens, Tinted, held}
+use Rattle.atomic_laws.proofs.Spares.{keep_all_lem}
+use Rattle.atomic_laws.proofs.Survives.{other_white_lem}
 use Rattle.sweep_laws.specs.Places.{Rows, top_is}
 use Rattle.sweep_laws.specs.Collections.{other_back}
 use Rattle.sweep_laws.specs.Repaints.{Repainted, repainted_then, repainted_keeps, marked_repainted, low_repainted, sorted_repainted, begun_words, flipped_words}

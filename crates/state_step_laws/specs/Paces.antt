@@ -33,7 +33,7 @@ use Rattle.pace.specs.declared.Half.TheVariants as half
 use Rattle.pace.specs.Pace.{steps_most, turned, turn, on_turn, budgeted_for, budgeted, on_step, driven_for, driven, on_half, over, full_second, full_first, automatic}
 use Rattle.mark_laws.specs.Apart.{Apart, Order, order}
 use Rattle.room_laws.specs.Tallies.{Ample}
-use Rattle.room_laws.specs.Queues.{queue_count}
+use Rattle.room_laws.proofs.Queues.{queue_count}
 use Rattle.atomic_laws.specs.Bodies.{Bodies}
 use Rattle.sweep_laws.specs.Places.{Rows, six_room, top_is}
 use Rattle.sweep_laws.specs.Turns.{Progress}

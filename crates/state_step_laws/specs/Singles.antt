@@ -22,7 +22,7 @@ use Rattle.lists.specs.declared.Item.TheVariants.{Table, Function, Userdata, Thr
 use Rattle.lists.specs.declared.Popped.{Popped}
 use Rattle.lists.specs.declared.Popped.TheVariants.{Got, Nothing}
 use Rattle.lists.specs.Lists.{length_of, item_at, pop, taken}
-use Rattle.lists.specs.Laws.{pop_none, pop_some, pop_length, pop_long, pop_kept}
+use Rattle.lists.proofs.Laws.{pop_none, pop_some, pop_length, pop_long, pop_kept}
 use Rattle.laid.specs.Laid.{Laid, queue_room_lem}
 use Rattle.mark.specs.Words.{arena_of}
 use Rattle.step.specs.declared.Single.{Single}
@@ -31,7 +31,7 @@ use Rattle.step.specs.Step.{start_cycle, propagate_step, costs, method_of, final
 use Rattle.sweep_step.specs.Sweeping.{sweep_strings, sweep_others}
 use Rattle.mark_laws.specs.Apart.{Apart, Order, order, arena_header, arena_lists}
 use Rattle.room_laws.specs.Tallies.{Ample}
-use Rattle.room_laws.specs.Queues.{queue_count}
+use Rattle.room_laws.proofs.Queues.{queue_count}
 use Rattle.atomic_laws.specs.Bodies.{Bodies}
 use Rattle.sweep_laws.specs.Places.{Rows, top_is}
 use Rattle.sweep_laws.specs.Turns.{strings_step, others_step}

@@ -30,20 +30,22 @@ use Rattle.step.specs.Step.{start_cycle, single_step}
 use Rattle.mark_laws.specs.Apart.{Apart, apart}
 use Rattle.mark_laws.specs.Colours.{shade_parts}
 use Rattle.mark_laws.specs.Changes.{tops}
-use Rattle.room_laws.specs.Tallies.{Ample, ample}
-use Rattle.room_laws.specs.Payments.{whole_long}
-use Rattle.room_laws.specs.Queues.{queue_count}
-use Rattle.room_laws.specs.Atomics.{atomic_whole}
+use Rattle.room_laws.specs.Tallies.{Ample}
+use Rattle.room_laws.proofs.Tallies.{ample}
+use Rattle.room_laws.proofs.Payments.{whole_long}
+use Rattle.room_laws.proofs.Queues.{queue_count}
+use Rattle.room_laws.proofs.Atomics.{atomic_whole}
 use Rattle.reach.specs.Reached.{Occupied, Root}
 use Rattle.reach.specs.Cycle.{AllWhite, advances}
 use Rattle.reach.specs.Oks.{Ok}
-use Rattle.reach.specs.Exact.{None, First, marked_ok}
+use Rattle.reach.specs.Exact.{None, First}
+use Rattle.reach.proofs.Exact.{marked_ok}
 use Rattle.atomic_laws.specs.Kept.{Kept, Spared}
 use Rattle.atomic_laws.specs.Bodies.{Bodies, bodies}
 use Rattle.atomic_laws.specs.Notes.{Noted}
-use Rattle.atomic_laws.specs.Notings.{marked_noted}
-use Rattle.atomic_laws.specs.Dues.{shade_colour}
-use Rattle.atomic_laws.specs.Survives.{other_white_lem, flipped_exact}
+use Rattle.atomic_laws.proofs.Notings.{marked_noted}
+use Rattle.atomic_laws.proofs.Dues.{shade_colour}
+use Rattle.atomic_laws.proofs.Survives.{other_white_lem, flipped_exact}
 use Rattle.cycle_laws.specs.Counters.{stored, phase_counter, stored_word, stored_white}
 use Rattle.cycle_laws.specs.Singles.{singles}
 use Rattle.cycle_laws.specs.Collects.{steps_ok, steps_noted, none_v, Collected, collected}

@@ -28,16 +28,17 @@ use Rattle.mark_laws.specs.Apart.{Apart, Order, order}
 use Rattle.mark_laws.specs.Changes.{counters}
 use Rattle.link_laws.specs.Roots.{root_links_same}
 use Rattle.room_laws.specs.Tallies.{Ample}
-use Rattle.room_laws.specs.Queues.{queue_count}
+use Rattle.room_laws.proofs.Queues.{queue_count}
 use Rattle.reach.specs.Reached.{Root}
 use Rattle.reach.specs.Cycle.{AllWhite, advanced, advances}
 use Rattle.reach.specs.Oks.{Ok}
-use Rattle.reach.specs.Exact.{None, First, advances_ok}
+use Rattle.reach.specs.Exact.{None, First}
+use Rattle.reach.proofs.Exact.{advances_ok}
 use Rattle.atomic_laws.specs.Kept.{Kept, Spared}
 use Rattle.atomic_laws.specs.Bodies.{Bodies}
-use Rattle.atomic_laws.specs.Alikes.{alike_back, root_alike, kept_alike, spared_alike}
+use Rattle.atomic_laws.proofs.Alikes.{alike_back, root_alike, kept_alike, spared_alike}
 use Rattle.atomic_laws.specs.Notes.{Noted}
-use Rattle.atomic_laws.specs.Notings.{advances_noted}
+use Rattle.atomic_laws.proofs.Notings.{advances_noted}
 use Rattle.cycle_laws.specs.Counters.{stored, Counter, phase_counter, stored_word, stored_shade, stored_alike, stored_ok, stored_noted, stored_white}
 use Rattle.cycle_laws.specs.Singles.{start_step, gray_step, atomic_step, started_phase}
 use Rattle.cycle_laws.specs.Collects.{frame_one, started_ok, started_noted}

@@ -31,7 +31,7 @@ use Rattle.step.specs.declared.Single.{Single}
 use Rattle.step.specs.declared.Single.TheVariants.{Cost}
 use Rattle.step.specs.Step.{start_cycle, propagate_step, costs, single_step}
 use Rattle.mark_laws.specs.Apart.{Apart, Order, order, arena_lists}
-use Rattle.atomic_laws.specs.Survives.{other_white_lem}
+use Rattle.atomic_laws.proofs.Survives.{other_white_lem}
 use Rattle.cycle_laws.specs.Singles.{singles}
 use Rattle.sweep_laws.specs.Batches.{Clean, clean_none, clean_cleaned, clean_same}
 use Rattle.sweep_laws.specs.Places.{Rows, arena_at_lem, top_is, body_past, six_room, swept_same, low_same, low_outside}

@@ -35,7 +35,7 @@ use Rattle.layout.specs.Layout.{lay_of}
 use Rattle.layout.specs.Places.{PHASE, WHITE, CURSOR_ARENA, CURSOR_SLOT, TOTAL, ESTIMATE}
 use Rattle.lists.specs.declared.Item.TheVariants as item
 use Rattle.lists.specs.Lists.{length_of, item_at, cleared}
-use Rattle.lists.specs.Laws.{item_found, cleared_kept}
+use Rattle.lists.proofs.Laws.{item_found, cleared_kept}
 use Rattle.record.specs.Fields.{body_at}
 use Rattle.record.specs.Tables.{table_meta, array_size, node_number, node_count, array_place, array_value, node_place, node_key, node_value}
 use Rattle.record.specs.Userdata.{ud_finalized}
@@ -56,31 +56,34 @@ use Rattle.mark_laws.specs.Apart.{Apart, Order, order, apart}
 use Rattle.mark_laws.specs.Colours.{shade_parts, named_shade}
 use Rattle.mark_laws.specs.Changes.{Marked, past}
 use Rattle.mark_laws.specs.Stays.{below}
-use Rattle.room_laws.specs.Tallies.{Ample, ample}
-use Rattle.room_laws.specs.Payments.{whole_long}
+use Rattle.room_laws.specs.Tallies.{Ample}
+use Rattle.room_laws.proofs.Tallies.{ample}
+use Rattle.room_laws.proofs.Payments.{whole_long}
 use Rattle.reach.specs.Reached.{Occupied, Root}
 use Rattle.reach.specs.Cycle.{AllWhite, rooted, advances}
 use Rattle.reach.specs.OnLists.{on_same}
 use Rattle.reach.specs.Oks.{Ok}
-use Rattle.reach.specs.Exact.{None, start_ok, advances_ok, marked_ok}
+use Rattle.reach.specs.Exact.{None}
+use Rattle.reach.proofs.Exact.{start_ok, advances_ok, marked_ok}
 use Rattle.atomic_laws.specs.Kept.{Due, KeptRoot, Kept, is_weak_table}
 use Rattle.atomic_laws.specs.Bodies.{Bodies, bodies, flags_reads, marked_reads}
-use Rattle.atomic_laws.specs.Alikes.{occupied_in}
+use Rattle.atomic_laws.proofs.Alikes.{occupied_in}
 use Rattle.atomic_laws.specs.Separates.{Sorted}
-use Rattle.atomic_laws.specs.Dues.{due_parts, due_handle, handle_due}
-use Rattle.atomic_laws.specs.Finishes.{finished_exact}
+use Rattle.atomic_laws.proofs.Dues.{due_parts, due_handle, handle_due}
+use Rattle.atomic_laws.proofs.Finishes.{finished_exact}
 use Rattle.atomic_laws.specs.Notes.{Noted}
-use Rattle.atomic_laws.specs.Notings.{rooted_noted, advances_noted, marked_noted, kept_weak}
-use Rattle.atomic_laws.specs.Spares.{whitens, whitens_cases, held, Tinted, keep_all_lem}
-use Rattle.atomic_laws.specs.Survives.{low_shade, s, done, same_white, G_long, whites, occupied_then, white_or, held_spared, H_long}
+use Rattle.atomic_laws.proofs.Notings.{rooted_noted, advances_noted, marked_noted, kept_weak}
+use Rattle.atomic_laws.specs.Spares.{whitens, held, Tinted}
+use Rattle.atomic_laws.proofs.Spares.{whitens_cases, keep_all_lem}
+use Rattle.atomic_laws.proofs.Survives.{low_shade, s, done, same_white, G_long, whites, occupied_then, white_or, held_spared, H_long}
 use Rattle.cycle_laws.specs.Counters.{stored, phase_counter, stored_white}
 use Rattle.cycle_laws.specs.Singles.{singles}
 use Rattle.cycle_laws.specs.Collects.{Collected as Steps, steps_ok, steps_noted, none_v}
 use Rattle.sweep_laws.specs.Places.{Rows, rows}
 use Rattle.manual.specs.Manual.{WeakKeys, WeakValues, WeakTable, Strong-key, Strong-value, From-step, Collected, Removed, ToFinalize, Retained}
 use Rattle.manual.specs.Instance.{Object, EntryOf, EntryOf-array, EntryOf-node, key_links, values_links, in_tables, FinalizedIs, heap}
-use Rattle.manual.specs.Agrees.{table_of, weak_keys, weak_values, finalize_exact, retained_exact}
-use Rattle.manual.specs.Agreement.{agreement}
+use Rattle.manual.proofs.Agrees.{table_of, weak_keys, weak_values, finalize_exact, retained_exact}
+use Rattle.manual.proofs.Agreement.{agreement}
 use Rattle.weak_laws.specs.Cuts.{body, size, nodes, array_at, key_at, node_at, mode_at, ArrayDies, NodeDies, Same, Zero, Cut, same_value, zero_value}
 use Rattle.weak_laws.specs.Clears.{Done, Listed, all_cleared}
 

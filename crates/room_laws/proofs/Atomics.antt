@@ -18,9 +18,10 @@ use Rattle.mark_laws.specs.Propagates.{all_moves}
 use Rattle.mark_laws.specs.Stocks.{clean_spends}
 use Rattle.mark_laws.specs.Rooms.{Roomy, spends_roomy, all_roomy}
 use Rattle.room_laws.specs.Tallies.{tally, Paid, Ample}
-use Rattle.room_laws.specs.Cycles.{Propagating, propagating_whole}
-use Rattle.room_laws.specs.Walks.{marked_roomy}
-use Rattle.room_laws.specs.Queues.{queue_count, separated_held, held_roomy, held_mark, queued_clean}
+use Rattle.room_laws.specs.Cycles.{Propagating}
+use Rattle.room_laws.proofs.Cycles.{propagating_whole}
+use Rattle.room_laws.proofs.Walks.{marked_roomy}
+use Rattle.room_laws.proofs.Queues.{queue_count, separated_held, held_roomy, held_mark, queued_clean}
 use Rattle.room_laws.specs.Flips.{flipped_mark, begun_mark}
 
 module _ (l : Lay) (ok : Laid l) (a : Apart l) (am : Ample l) (b : List ℕ) where

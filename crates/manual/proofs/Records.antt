@@ -21,7 +21,7 @@ use Rattle.mark.specs.Ops.{Ref, ref, upval}
 use Rattle.modes.specs.Modes.{weak_mode}
 use Rattle.links.specs.Links.{value_links, table_link, string_link, each, entry_links, table_links, closure_links, upvalue_links, userdata_links, stack_links, thread_links, proto_links, frame_links, main_links, root_links, links, roots}
 use Rattle.mark_laws.specs.Kinds.{links_table, links_closure, links_upvalue, links_userdata, links_thread}
-use Rattle.atomic_laws.specs.Spares.{each_out, each_in}
+use Rattle.atomic_laws.proofs.Spares.{each_out, each_in}
 use Rattle.manual.specs.Instance.{
   Rooted,
   Rooted-global,

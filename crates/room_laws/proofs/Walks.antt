@@ -19,7 +19,7 @@ use Rattle.layout.specs.declared.Lay.{Lay}
 use Rattle.lists.specs.declared.Item.{Item}
 use Rattle.lists.specs.declared.Item.TheVariants.{Table, Function, Userdata, Thread, Main, Unknown}
 use Rattle.lists.specs.Lists.{damage, kind_of, item_in, length_of, place, item_at, push, cleared}
-use Rattle.lists.specs.Laws.{item_found, item_three, cleared_kept, cleared_length}
+use Rattle.lists.proofs.Laws.{item_found, item_three, cleared_kept, cleared_length}
 use Rattle.record.specs.Fields.{body_at}
 use Rattle.record.specs.Tables.{table_meta}
 use Rattle.run_record.specs.Threads.{thread_global}
@@ -53,8 +53,9 @@ use Rattle.room_laws.specs.Counts.{is_gray, count_most, white_and_dark}
 use Rattle.room_laws.specs.Tallies.{Tally, tally, Paid, Ample}
 use Rattle.room_laws.specs.Frames.{OnList, Other, list_same, other_words, other_same, push_only, cleared_only}
 use Rattle.room_laws.specs.Paints.{paint_list}
-use Rattle.room_laws.specs.Payments.{Whole, marks_whole}
-use Rattle.room_laws.specs.Steps.{kind_read}
+use Rattle.room_laws.specs.Payments.{Whole}
+use Rattle.room_laws.proofs.Payments.{marks_whole}
+use Rattle.room_laws.proofs.Steps.{kind_read}
 
 -- What holds before turn i, and after each turn of its number, holds at the end.
 module _ {S : Type 0} (step : ℕ → S → S) (P : ℕ → S → Type 0) where

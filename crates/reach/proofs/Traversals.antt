@@ -23,7 +23,7 @@ use Rattle.lists.specs.declared.Item.{Item}
 use Rattle.lists.specs.declared.Item.TheVariants.{Table, Function, Userdata, Thread, Main, Unknown}
 use Rattle.lists.specs.declared.Popped.{Popped}
 use Rattle.lists.specs.Lists.{kind_of, length_of, item_at, push, pop, taken}
-use Rattle.lists.specs.Laws.{item_found, pop_some}
+use Rattle.lists.proofs.Laws.{item_found, pop_some}
 use Rattle.record.specs.Fields.{body_at}
 use Rattle.record.specs.Tables.{table_meta}
 use Rattle.laid.specs.Laid.{Laid, gray_room_lem, grayagain_room_lem}
@@ -54,13 +54,16 @@ use Rattle.room_laws.specs.Pends.{item_for}
 use Rattle.room_laws.specs.Tallies.{Ample}
 use Rattle.room_laws.specs.Frames.{OnList, OnlyList, other_words, mark_apart, push_only, pop_only}
 use Rattle.room_laws.specs.Paints.{paint_list}
-use Rattle.room_laws.specs.Payments.{Whole, whole_long, table_black, closure_black, thread_black, weak_whole, again_fits, again_whole}
-use Rattle.room_laws.specs.Steps.{whole_less, pop_whole, mains_due}
+use Rattle.room_laws.specs.Payments.{Whole}
+use Rattle.room_laws.proofs.Payments.{whole_long, table_black, closure_black, thread_black, weak_whole, again_fits, again_whole}
+use Rattle.room_laws.specs.Steps.{mains_due}
+use Rattle.room_laws.proofs.Steps.{whole_less, pop_whole}
 use Rattle.reach.specs.Reached.{Reach, Link, Occupied}
 use Rattle.reach.specs.Tri.{Upd, follow, pend_more, inv_same}
 use Rattle.reach.specs.OnLists.{On, on_same, push_was, pop_old, pop_was}
 use Rattle.reach.specs.Shades.{ref_of, item_back, paint_upd, push_shade, pop_shade}
-use Rattle.reach.specs.Oks.{Again, Ok, again_up, marks_ok, marks_all}
+use Rattle.reach.specs.Oks.{Again, Ok}
+use Rattle.reach.proofs.Oks.{again_up, marks_ok, marks_all}
 
 up_from : (c d : ℕ) → 3 ≤ c → c ≤ d → 3 ≤ d
 up_from c d f g = omega (arith, f, g)

@@ -16,7 +16,7 @@ use Rattle.layout.specs.Places.{WHITE}
 use Rattle.lists.specs.declared.Item.{Item}
 use Rattle.lists.specs.declared.Item.TheVariants.{Userdata}
 use Rattle.lists.specs.Lists.{index_of, generation_of, item_in, length_of, place, item_at}
-use Rattle.lists.specs.Laws.{item_found, item_three}
+use Rattle.lists.proofs.Laws.{item_found, item_three}
 use Rattle.laid.specs.Laid.{Laid}
 use Rattle.mark.specs.Ops.{Ref, ud}
 use Rattle.mark.specs.Words.{colour_w, paint_w, ops}
@@ -34,19 +34,21 @@ use Rattle.mark_laws.specs.Kinds.{links_userdata}
 use Rattle.mark_laws.specs.Ends.{all_empty}
 use Rattle.room_laws.specs.Tallies.{Ample}
 use Rattle.room_laws.specs.Paints.{paint_quiet}
-use Rattle.room_laws.specs.Payments.{quiet_whole, whole_long}
-use Rattle.room_laws.specs.Walks.{run_along}
-use Rattle.room_laws.specs.Queues.{queue_count}
+use Rattle.room_laws.proofs.Payments.{quiet_whole, whole_long}
+use Rattle.room_laws.proofs.Walks.{run_along}
+use Rattle.room_laws.proofs.Queues.{queue_count}
 use Rattle.reach.specs.Reached.{Root}
 use Rattle.reach.specs.Cycle.{AllWhite}
 use Rattle.reach.specs.Shades.{ref_same}
-use Rattle.reach.specs.Oks.{Ok, marks_all}
-use Rattle.reach.specs.Traversals.{chosen, weaken_ok, follow_ok, for_ok}
-use Rattle.reach.specs.Exact.{None, ok_exact}
+use Rattle.reach.specs.Oks.{Ok}
+use Rattle.reach.proofs.Oks.{marks_all}
+use Rattle.reach.proofs.Traversals.{chosen, weaken_ok, follow_ok, for_ok}
+use Rattle.reach.specs.Exact.{None}
+use Rattle.reach.proofs.Exact.{ok_exact}
 use Rattle.atomic_laws.specs.Kept.{KeptRoot, Kept}
 use Rattle.atomic_laws.specs.Bodies.{Bodies}
 use Rattle.atomic_laws.specs.Separates.{handle, Sorted}
-use Rattle.atomic_laws.specs.Dues.{sorted, handle_due, due_gray, reach_back, Waiting, separated_ok}
+use Rattle.atomic_laws.proofs.Dues.{sorted, handle_due, due_gray, reach_back, Waiting, separated_ok}
 
 module _ (l : Lay) (ok : Laid l) (a : Apart l) (am : Ample l) (y : Bodies l) (w b : List ℕ) (long : l.words ≤ length w) (f : AllWhite l w) (none : length_of l.queue w ≡ 0)
     (u : List ℕ) (c : Ok l w b (Root l w b) (Root l w b) None 0 0 0 [] u) (e : length_of l.gray u ≡ 0) where

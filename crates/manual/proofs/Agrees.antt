@@ -34,9 +34,9 @@ use Rattle.links.specs.Links.{value_links, each, node_links, entry_links}
 use Rattle.reach.specs.Reached.{Reach, Reach-root, Reach-step, Occupied, Link, Root, Reached}
 use Rattle.reach.specs.Tri.{reach_occ}
 use Rattle.atomic_laws.specs.Kept.{Due, KeptRoot, Kept}
-use Rattle.atomic_laws.specs.Spares.{each_out, each_in}
+use Rattle.atomic_laws.proofs.Spares.{each_out, each_in}
 use Rattle.manual.specs.Manual.{WeakKeys, WeakValues, Strong, Strong-other, Strong-key, Strong-value, From, From-start, From-step, Accessible, ToFinalize, Retained}
-use Rattle.manual.specs.Records.{links_out, links_in, entries_in, rooted_out, rooted_in}
+use Rattle.manual.proofs.Records.{links_out, links_in, entries_in, rooted_out, rooted_in}
 use Rattle.manual.specs.Instance.{Object, Rooted, EntryOf, EntryOf-array, EntryOf-node, key_links, values_links, ModeIs, in_tables, in_userdata, heap}
 
 -- The byte search finds a byte exactly if it is one of them.

@@ -17,7 +17,7 @@ use Rattle.layout.specs.declared.Lay.{Lay}
 use Rattle.layout.specs.Places.{PHASE, WHITE, CURSOR_ARENA, CURSOR_SLOT, TOTAL, ESTIMATE}
 use Rattle.lists.specs.declared.Item.TheVariants.{Table}
 use Rattle.lists.specs.Lists.{length_of, item_at, cleared}
-use Rattle.lists.specs.Laws.{item_found}
+use Rattle.lists.proofs.Laws.{item_found}
 use Rattle.record.specs.Fields.{body_at}
 use Rattle.laid.specs.Laid.{Laid}
 use Rattle.mark.specs.Ops.{Ref, tab, weak, other_white}
@@ -32,23 +32,25 @@ use Rattle.mark_laws.specs.Changes.{counters, Up}
 use Rattle.mark_laws.specs.Stays.{colour_rises}
 use Rattle.room_laws.specs.Tallies.{Ample}
 use Rattle.room_laws.specs.Frames.{OnList}
-use Rattle.room_laws.specs.Payments.{whole_long}
-use Rattle.room_laws.specs.Queues.{queue_count}
+use Rattle.room_laws.proofs.Payments.{whole_long}
+use Rattle.room_laws.proofs.Queues.{queue_count}
 use Rattle.room_laws.specs.Flips.{low_none, cleared_low}
 use Rattle.reach.specs.Reached.{Occupied, Root}
 use Rattle.reach.specs.Cycle.{AllWhite, rooted, advances}
 use Rattle.reach.specs.OnLists.{on_same}
 use Rattle.reach.specs.Shades.{shade_alike, cleared_shade}
 use Rattle.reach.specs.Oks.{Ok}
-use Rattle.reach.specs.Exact.{None, start_ok, advances_ok, marked_ok}
+use Rattle.reach.specs.Exact.{None}
+use Rattle.reach.proofs.Exact.{start_ok, advances_ok, marked_ok}
 use Rattle.atomic_laws.specs.Kept.{KeptRoot, Kept, table_strings, Spared}
 use Rattle.atomic_laws.specs.Bodies.{Bodies, flags_reads, marked_reads}
 use Rattle.atomic_laws.specs.Separates.{Sorted}
-use Rattle.atomic_laws.specs.Dues.{sorted, shade_apart, occupied_back}
-use Rattle.atomic_laws.specs.Finishes.{finished_ok, finished_exact}
+use Rattle.atomic_laws.proofs.Dues.{sorted, shade_apart, occupied_back}
+use Rattle.atomic_laws.proofs.Finishes.{finished_ok, finished_exact}
 use Rattle.atomic_laws.specs.Notes.{Noted}
-use Rattle.atomic_laws.specs.Notings.{rooted_noted, advances_noted, marked_noted, weak_kept, kept_weak}
-use Rattle.atomic_laws.specs.Spares.{whitens, whitens_cases, whitens_in, each_out, each_in, held_by, held, keep_all_lem, strings_same}
+use Rattle.atomic_laws.proofs.Notings.{rooted_noted, advances_noted, marked_noted, weak_kept, kept_weak}
+use Rattle.atomic_laws.specs.Spares.{whitens, held_by, held}
+use Rattle.atomic_laws.proofs.Spares.{whitens_cases, whitens_in, each_out, each_in, keep_all_lem, strings_same}
 
 -- The other white is white, and another.
 pub other_white_lem : (c : ℕ) → 1 ≤ c → c ≤ 2 → (1 ≤ other_white c) × (other_white c ≤ 4) × (other_white c ≢ c)

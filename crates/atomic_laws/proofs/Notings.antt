@@ -22,7 +22,7 @@ use Rattle.layout.specs.Places.{WHITE}
 use Rattle.lists.specs.declared.Item.{Item}
 use Rattle.lists.specs.declared.Item.TheVariants.{Table, Function, Userdata, Thread, Main, Unknown}
 use Rattle.lists.specs.Lists.{item_in, length_of, place, item_at, cleared}
-use Rattle.lists.specs.Laws.{item_found}
+use Rattle.lists.proofs.Laws.{item_found}
 use Rattle.record.specs.Fields.{body_at}
 use Rattle.record.specs.Tables.{table_meta}
 use Rattle.run_record.specs.Threads.{thread_global}
@@ -56,20 +56,21 @@ use Rattle.mark_laws.specs.Starts.{cleared_empty}
 use Rattle.room_laws.specs.Pends.{item_for}
 use Rattle.room_laws.specs.Tallies.{Ample}
 use Rattle.room_laws.specs.Frames.{other_words, other_same, push_only, cleared_only}
-use Rattle.room_laws.specs.Payments.{whole_long}
-use Rattle.room_laws.specs.Queues.{held_list}
+use Rattle.room_laws.proofs.Payments.{whole_long}
+use Rattle.room_laws.proofs.Queues.{held_list}
 use Rattle.reach.specs.Reached.{Root}
 use Rattle.reach.specs.Cycle.{AllWhite, rooted, advanced, advances}
 use Rattle.reach.specs.OnLists.{On, on_same, on_none}
 use Rattle.reach.specs.Shades.{cleared_shade}
 use Rattle.reach.specs.Oks.{Again, Ok}
-use Rattle.reach.specs.Traversals.{one_ok}
-use Rattle.reach.specs.Exact.{None, First, empty, empty_marked, empty_long, v, first_white, advanced_ok, again_listed_ok, mained_ok, walked_ok}
+use Rattle.reach.proofs.Traversals.{one_ok}
+use Rattle.reach.specs.Exact.{None, First}
+use Rattle.reach.proofs.Exact.{empty, empty_marked, empty_long, v, first_white, advanced_ok, again_listed_ok, mained_ok, walked_ok}
 use Rattle.atomic_laws.specs.Kept.{Kept, is_weak_table}
 use Rattle.atomic_laws.specs.Bodies.{Bodies, shade_held, flags_reads, marked_reads}
 use Rattle.atomic_laws.specs.Separates.{Sorted}
-use Rattle.atomic_laws.specs.Dues.{sorted}
-use Rattle.atomic_laws.specs.Finishes.{queued_ok, finished_ok, finished_exact}
+use Rattle.atomic_laws.proofs.Dues.{sorted}
+use Rattle.atomic_laws.proofs.Finishes.{queued_ok, finished_ok, finished_exact}
 use Rattle.atomic_laws.specs.Notes.{Noted, frame_noted, paint_noted, marks_noted, one_noted, main_noted, for_noted}
 
 module _ (l : Lay) (ok : Laid l) (a : Apart l) (am : Ample l) (w b : List ℕ) (long : l.words ≤ length w) where

@@ -15,15 +15,15 @@ use Rattle.mark.specs.Words.{colour_w}
 use Rattle.atomic.specs.Atomic.{marked, atomic}
 use Rattle.laid.specs.Laid.{laid_of}
 use Rattle.mark_laws.specs.Apart.{apart}
-use Rattle.room_laws.specs.Tallies.{ample}
+use Rattle.room_laws.proofs.Tallies.{ample}
 use Rattle.room_laws.specs.Cycles.{Propagating}
-use Rattle.room_laws.specs.Atomics.{cycle_whole}
+use Rattle.room_laws.proofs.Atomics.{cycle_whole}
 use Rattle.reach.specs.Reached.{Occupied, Reached}
 use Rattle.reach.specs.Cycle.{AllWhite, rooted, advances}
-use Rattle.reach.specs.Exact.{marked_exact}
+use Rattle.reach.proofs.Exact.{marked_exact}
 use Rattle.atomic_laws.specs.Kept.{Kept, Spared}
 use Rattle.atomic_laws.specs.Bodies.{bodies}
-use Rattle.atomic_laws.specs.Survives.{atomic_exact}
+use Rattle.atomic_laws.proofs.Survives.{atomic_exact}
 
 module _ (s : Sizes) (h : SizesOk s) (w b : List ℕ) (long : (lay_of s).words ≤ length w) where
   -- From any words: the roots marked, any steps, main thread's traversals, barriers and other work, then the atomic phase with an

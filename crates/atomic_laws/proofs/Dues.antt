@@ -40,14 +40,15 @@ use Rattle.room_laws.specs.Pends.{item_for}
 use Rattle.room_laws.specs.Counts.{is_gray, is_dark}
 use Rattle.room_laws.specs.Tallies.{Ample}
 use Rattle.room_laws.specs.Frames.{Quiet, quiet_paid}
-use Rattle.room_laws.specs.Payments.{whole_long}
-use Rattle.room_laws.specs.Queues.{queue_count, held_list, held_mark, held_colour}
+use Rattle.room_laws.proofs.Payments.{whole_long}
+use Rattle.room_laws.proofs.Queues.{queue_count, held_list, held_mark, held_colour}
 use Rattle.reach.specs.Reached.{Reach, Reach-root, Reach-step, Link, Occupied, Root, Reached}
 use Rattle.reach.specs.Cycle.{AllWhite}
 use Rattle.reach.specs.Tri.{reach_more, reach_occ, reach_map}
 use Rattle.reach.specs.OnLists.{on_same, on_none}
 use Rattle.reach.specs.Oks.{Again, Ok}
-use Rattle.reach.specs.Exact.{None, ok_exact}
+use Rattle.reach.specs.Exact.{None}
+use Rattle.reach.proofs.Exact.{ok_exact}
 use Rattle.atomic_laws.specs.Kept.{Due, KeptRoot}
 use Rattle.atomic_laws.specs.Bodies.{Bodies, shade_held, flags_reads, marked_reads}
 use Rattle.atomic_laws.specs.Separates.{Sorted, separated_sorted}
