@@ -13,7 +13,7 @@ use mathlib.Core.Logic.{◌⊎◌, inl, inr, ⊎_elim}
 use Prim.Native.Nat.{ℕ, zero, suc, ◌-◌, ◌≤◌, ◌<◌}
 use native.Mathlib.Decide.{dec_lt, ℕ_discrete}
 use native.Mathlib.Omega.{arith}
-use lib.ListN.{length, set, replicate}
+use lib.ListN.{length, replicate}
 use lib.Seq.{get_or-set_other}
 use Rattle.base.specs.Ways.{lt_yes, lt_no, eq_yes, eq_no}
 use Rattle.base.specs.Words.{at, put}
