@@ -1,0 +1,21 @@
+-- `upvalue_calls::upvalue_set` meets its contract: the callees' equations joined. Assumes nothing.
+use mathlib.Core.Path.{◌∙◌, sym}
+use native.Mathlib.Omega.{arith}
+use Rattle.entered.specs.Entered.{entered}
+use Rattle.test1.specs.Calls.{call_marked, marked_refused}
+use Rattle.upvalue_calls.specs.UpvalueCalls.{upvalue_set}
+use Rattle.upvalue_calls.proofs.upvalue_set.Goals as goal
+
+pub upvalue_set_in-a-requires : goal.upvalue_set_in-a-requires
+upvalue_set_in-a-requires c = record { laid = entered _ _ _ (sym c.in-Fits.is ∙ c.enter.ensures.0); l_in_bounds = (rw c.in-Fits.is at c.enter.ensures.1).words }
+
+pub unmarked-requires : goal.unmarked-requires
+unmarked-requires c = omega (arith, (rw c.in-Fits.is at c.enter.ensures.1).header, c.upvalue_set_in-a.auto.w)
+
+pub returns-in-Fits : goal.returns-in-Fits
+unfolding upvalue_set call_marked
+returns-in-Fits c = rw (← c.enter.ensures.0, c.in-Fits.is, ← c.upvalue_set_in-a.ensures, ← c.unmarked.ensures)
+
+pub returns-in-Refused : goal.returns-in-Refused
+unfolding upvalue_set
+returns-in-Refused c = marked_refused _ _ _ _ _ c.enter.ensures.0 c.in-Refused.is
