@@ -4,7 +4,6 @@ use Rattle.base.specs.Ways.{if_lt, if_le, if_eq}
 use Rattle.base.specs.Words.{at, put, get64, put64, bounded}
 use Rattle.value.specs.declared.UdOr.TheVariants.{Absent, Present}
 use Rattle.value.specs.declared.UdRef.{UdRef}
-use Rattle.value.specs.declared.Value.{Value}
 use Rattle.value.specs.Handles.{put_ud_or}
 use Rattle.layout.specs.Places.{LIMIT, PAUSE, PHASE, TOTAL, ESTIMATE, THRESHOLD, DEBT, INTERRUPTED, OUT, REMAINING, STRINGS, TABLES, FUNCTIONS, UPVALUES, USERDATA, THREADS}
 use Rattle.pacing.specs.Pacing.{grown_debt, cycle_threshold, step_threshold, debt_after, memory}

@@ -1,0 +1,30 @@
+-- `clearing::clear_listed` meets its contract: the callees' equations joined. Assumes nothing.
+use mathlib.Core.Path.{refl}
+use Rattle.laid.specs.Laid.{weak_room_lem, sizes_laid}
+use Rattle.clearing.specs.Strings.{on_table}
+use Rattle.clearing.specs.Entries.{clear_listed}
+use Rattle.clearing.proofs.Laws.{passed}
+use Rattle.clearing.proofs.clear_listed.Goals as goal
+
+pub weak_of-requires : goal.weak_of-requires
+weak_of-requires c = sizes_laid _ c.requires.laid
+
+pub item_at-requires : goal.item_at-requires
+item_at-requires c = rw c.weak_of.ensures (weak_room_lem _ _ c.requires.laid c.requires.l_in_bounds)
+
+pub clear_table-requires : goal.clear_table-requires
+clear_table-requires c = c.requires
+
+pub shape_of-w-in-Table : goal.shape_of-w-in-Table
+shape_of-w-in-Table c = c.clear_table.auto.w
+
+pub returns-in-Table : goal.returns-in-Table
+unfolding on_table clear_listed
+returns-in-Table c = rw (← (rw c.weak_of.ensures at c.item_at.ensures), c.in-Table.is) c.clear_table.ensures
+
+pub shape_of-w-in_default : goal.shape_of-w-in_default
+shape_of-w-in_default c = refl
+
+pub returns-in_default : goal.returns-in_default
+unfolding clear_listed
+returns-in_default c = rw (← (rw c.weak_of.ensures at c.item_at.ensures)) (passed _ _ _ c.in_default.not-Table)

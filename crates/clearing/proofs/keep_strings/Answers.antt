@@ -1,0 +1,34 @@
+-- `clearing::keep_strings` meets its contract: what is left of the loop gives the whole. Assumes nothing.
+use mathlib.Core.Path.{refl, ◌∙◌}
+use native.Mathlib.Omega.{arith}
+use Rattle.base.specs.Loop.{run_again, run_end}
+use Rattle.clearing.specs.Strings.{keep_strings}
+use Rattle.clearing.proofs.keep_strings.Goals as goal
+
+pub loop-i-init : goal.loop-i-init
+loop-i-init c = record { rest = refl; long = refl }
+
+pub overflow_mul-i : goal.overflow_mul-i
+overflow_mul-i c = omega arith
+
+pub overflow_add-p : goal.overflow_add-p
+overflow_add-p c = omega arith
+
+pub keep_string-requires : goal.keep_string-requires
+keep_string-requires c = record { laid = c.requires.laid; l_in_bounds = omega (arith, c.requires.l_in_bounds, c.loop-i.invariant.long); p_in_bounds = omega (arith, c.requires.n_in_bounds, c.loop-i.invariant.long, c.loop-i-test.true) }
+
+pub overflow_add-i : goal.overflow_add-i
+overflow_add-i c = omega arith
+
+pub loop-i-smaller : goal.loop-i-smaller
+loop-i-smaller c = omega (arith, c.loop-i-test.true)
+
+pub loop-i-preserved : goal.loop-i-preserved
+loop-i-preserved c = record { rest = run_again _ c.loop-i.invariant.rest c.loop-i-test.true c.keep_string.ensures; long = c.keep_string.auto.w ∙ c.loop-i.invariant.long }
+
+pub shape_of-w : goal.shape_of-w
+shape_of-w c = c.loop-i.invariant.long
+
+pub returns : goal.returns
+unfolding keep_strings
+returns c = run_end _ c.loop-i.invariant.rest c.loop-i-test.false
