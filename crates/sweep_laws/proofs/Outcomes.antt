@@ -24,7 +24,8 @@ use Rattle.atomic_laws.specs.Kept.{Kept, Spared}
 use Rattle.atomic_laws.proofs.Dues.{shade_colour}
 use Rattle.atomic_laws.proofs.Survives.{other_white_lem}
 use Rattle.sweep_laws.specs.Turns.{Arenas}
-use Rattle.sweep_laws.specs.Collections.{slot_at, ToFree, Freed, other_back}
+use Rattle.sweep_laws.specs.Collections.{slot_at, ToFree, Freed}
+use Rattle.sweep_laws.proofs.Collections.{other_back}
 use Rattle.sweep_laws.specs.Mixtures.{Outcome}
 
 -- whether a slot is in a list

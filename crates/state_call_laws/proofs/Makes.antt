@@ -19,7 +19,6 @@ use Rattle.test1.specs.Calls.{in_words}
 use Rattle.laid.specs.Laid.{Laid}
 use Rattle.record.specs.Strings.{text_one, text_put}
 use Rattle.record.specs.Tables.{table_extent}
-use Rattle.run_record.specs.Closures.{closure_extent}
 use Rattle.run_record.specs.Threads.{thread_extent}
 use Rattle.given.specs.Given.{is_table, is_sound}
 use Rattle.sound.specs.Sound.{are_sound}
@@ -35,7 +34,7 @@ use Rattle.make_strings.specs.Making.{holds, find_turn, find_string, Below, foun
 use Rattle.make_tables.specs.Making.{is_nodes, table_at, new_table, table_in, make_table, userdata_at, userdata_in, make_userdata}
 use Rattle.make_threads.specs.Making.{upvalue_at, new_upvalue, make_open_upvalue, closed_in, make_closed_upvalue, thread_at, new_thread, thread_in, make_thread}
 use Rattle.make_protos.specs.Making.{lengths_fit, lengths_most, are_nestable, proto_in, make_proto}
-use Rattle.closures.specs.Closures.{put_head, headed, new_closure, put_upvalue, put_upvalues, lua_at, new_lua, rust_at, new_rust}
+use Rattle.closures.specs.Closures.{new_closure, put_upvalue, put_upvalues, lua_at, new_lua, rust_at, new_rust}
 use Rattle.make_closures.specs.Making.{upvalues_fit, values_fit, lua_sound, lua_in, make_lua_closure, rust_sound, rust_in, make_rust_closure}
 use Rattle.value.specs.declared.Value.TheVariants.{Nil}
 use Rattle.value.specs.Values.{value_at}
@@ -47,7 +46,8 @@ use Rattle.state_laws.specs.Plains.{lt_both, le_both, cond_both, fields, Plainly
 use Rattle.state_laws.specs.Takes.{Begun}
 use Rattle.state_laws.proofs.Takes.{new_state, on_new_lem}
 use Rattle.state_laws.specs.Barriers.{found_state}
-use Rattle.state_call_laws.specs.Protos.{proto_state}
+use Rattle.state_call_laws.proofs.Protos.{proto_state}
+use Rattle.state_call_laws.proofs.Closures.{new_closure_lem}
 
 module _ (l : Lay) (ok : Laid l) (a : Apart l) (r : Rows l) (am : Ample l) where
   abbrev o : Order l
@@ -61,19 +61,6 @@ module _ (l : Lay) (ok : Laid l) (a : Apart l) (r : Rows l) (am : Ample l) where
   upvalues_plain : {w u : List ℕ} (p : ℕ) (s : List ℕ) (n : ℕ) → l.stack.base ≤ p → Plainly l w u → Plainly l w (put_upvalues p s n u)
   unfolding put_upvalues put_upvalue
   upvalues_plain {w} {u} p s n g t = run_keeps (put_upvalue p s) (λ (x : List ℕ). Plainly l w x) 0 n u (omega arith) (λ j x h k. past_two l ok a (p + 2 * j) _ _ (omega (arith, g)) k) t
-
-  -- The head of a closure.
-  head_plain : {w u : List ℕ} (p : ℕ) (rust : Bool) (env : TableOr) (proto n : ℕ) → l.stack.base ≤ p → Plainly l w u → Plainly l w (put_head p rust env proto n u)
-  unfolding put_head
-  head_plain p rust env proto n g t =
-      past_put l ok a (p + 4) _ (omega (arith, g))
-      (past_put l ok a (p + 3) _ (omega (arith, g))
-      (past_handle l ok a (p + 1) _ (omega (arith, g))
-      (past_put l ok a p _ g t)))
-
-  headed_state : (rust : Bool) (env : TableOr) (proto n : ℕ) (b : List ℕ) (x : New × List ℕ) → Begun l ok a r b x → Begun l ok a r b (headed rust env proto n x)
-  headed_state rust env proto n b (new.At i g p, u) s = (plain_state l ok a r (head_plain p rust env proto n s.1 plainly_none) s.0, s.1)
-  headed_state rust env proto n b (new.Refused k, u) s = s
 
   -- The bytes of a string stay as many.
   text_length : (i : ℕ) (s b : List ℕ) → length (put_text i s b) ≡ length b
@@ -171,12 +158,6 @@ module _ (l : Lay) (ok : Laid l) (a : Apart l) (r : Rows l) (am : Ample l) where
         (λ z. s))
         (λ z. s))
 
-    -- A closure.
-    new_closure_lem : (rust : Bool) (env : TableOr) (proto n : ℕ) → Begun l ok a r h.bytes (new_closure rust env proto n l w)
-    unfolding new_closure
-    new_closure_lem rust env proto n =
-        headed_state rust env proto n h.bytes (new_object l.functions 48 (closure_extent rust n) w) (new_state l ok a r 2 (omega arith) (closure_extent rust n) s)
-
     pub make_lua_closure_keeps : (proto : ℕ) (env : TableRef) (t : List ℕ) → State l (make_lua_closure proto env t h).1
     unfolding make_lua_closure lua_in new_lua
     make_lua_closure_keeps proto env t =
@@ -184,7 +165,7 @@ module _ (l : Lay) (ok : Laid l) (a : Apart l) (r : Rows l) (am : Ample l) where
         (le_both T _ _ _ _ (λ e. s)
         (λ e. cond_both T (upvalues_fit (length t)) _ _
         (λ z. cond_both T (lua_sound proto env t l w) _ _
-        (λ z. on_new_lem l ok a r (lua_at t) h.bytes (new_closure false _ proto (length t / 2) l w) (new_closure_lem false _ proto (length t / 2))
+        (λ z. on_new_lem l ok a r (lua_at t) h.bytes (new_closure false _ proto (length t / 2) l w) (new_closure_lem l ok a r am h s false _ proto (length t / 2))
         (λ i g p u f k. plain_state l ok a r (upvalues_plain (p + 5) t (length t / 2) (omega (arith, f)) plainly_none) k))
         (λ z. s))
         (λ z. s)))
@@ -195,7 +176,7 @@ module _ (l : Lay) (ok : Laid l) (a : Apart l) (r : Rows l) (am : Ample l) where
         call_state Refused (in_words (rust_in env t)) l h s
         (cond_both T (values_fit (length t)) _ _
         (λ z. cond_both T (rust_sound env t l w) _ _
-        (λ z. on_new_lem l ok a r (rust_at t) h.bytes (new_closure true env 0 (length t / 3) l w) (new_closure_lem true env 0 (length t / 3))
+        (λ z. on_new_lem l ok a r (rust_at t) h.bytes (new_closure true env 0 (length t / 3) l w) (new_closure_lem l ok a r am h s true env 0 (length t / 3))
         (λ i g p u f k. plain_state l ok a r (values_plain (p + 5) t (length t / 3) (omega (arith, f)) plainly_none) k))
         (λ z. s))
         (λ z. s))

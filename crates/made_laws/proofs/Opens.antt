@@ -29,7 +29,8 @@ use Rattle.mark_laws.specs.Apart.{apart, Order, order}
 use Rattle.sweep_laws.specs.Places.{rows, top_is}
 use Rattle.state_laws.specs.State.{Swept, State}
 use Rattle.made.specs.Made.{Made}
-use Rattle.made_laws.specs.Sounds.{Sound, made_sound}
+use Rattle.made_laws.specs.Sounds.{Sound}
+use Rattle.made_laws.proofs.Sounds.{made_sound}
 use Rattle.made_laws.specs.Pauses.{lay_at}
 
 both : (x y : Bool) → x ≡ true → y ≡ true → x && y ≡ true

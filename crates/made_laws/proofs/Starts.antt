@@ -15,9 +15,10 @@ use Rattle.newheap.specs.declared.Made.TheVariants as making
 use Rattle.newheap.specs.declared.Made as make
 use Rattle.newheap.specs.New.{new_heap, made_in, make_heap}
 use Rattle.made.specs.Made.{Made, new}
-use Rattle.made_laws.specs.News.{new_pause}
-use Rattle.made_laws.specs.Opens.{sizes_pass}
-use Rattle.made_laws.specs.Publics.{some, until, made_ends}
+use Rattle.made_laws.proofs.News.{new_pause}
+use Rattle.made_laws.proofs.Opens.{sizes_pass}
+use Rattle.made_laws.specs.Publics.{some, until}
+use Rattle.made_laws.proofs.Publics.{made_ends}
 
 module _ (s : Sizes) (f : SizesOk s) (h : Heap) (long : (lay_of s).words ≤ length h.words) (wide : (lay_of s).bytes ≤ length h.bytes) where
   made_is : make_heap s h ≡ (making.Done, new_heap (lay_of s) h)

@@ -39,8 +39,10 @@ use Rattle.state_laws.specs.State.{State, mains_same, sum_same, nested_same, lis
 use Rattle.state_laws.specs.Rooms.{moves_lists}
 use Rattle.state_laws.specs.Plains.{le_both, eq_both, cond_both, pacing, marks, Plainly, plainly_none, plainly_put, plainly_two, plain_state}
 use Rattle.state_step_laws.specs.Marks.{Free}
-use Rattle.state_step_laws.specs.Singles.{After, single_after}
-use Rattle.state_step_laws.specs.Paces.{free_plain, grown_plain, handed_state, taken_free, taken_phase, cost_state, on_turn_lem, budgeted_state, automatic_state, first_state, second_state}
+use Rattle.state_step_laws.specs.Singles.{After}
+use Rattle.state_step_laws.proofs.Singles.{single_after}
+use Rattle.state_step_laws.proofs.Plains.{free_plain, grown_plain, handed_state, taken_free, taken_phase}
+use Rattle.state_step_laws.proofs.Paces.{cost_state, on_turn_lem, budgeted_state, automatic_state, first_state, second_state}
 
 -- none is out where the test says so
 none_out : (n : ℕ) → ltb 0 n ≡ false → n ≡ 0
