@@ -1,6 +1,6 @@
 // heapscript (document 01): commands from standard input over a heap of 16 strings, tables and userdata, main stack 32 and one
 // frame. It reads, has each line run, and prints what that gives; all else is in the libraries that it calls. A line ends at a
-// newline; the last line may have none.
+// newline; the last line may have none. A read or a write that fails ends the program.
 #![tactic(auto)]
 
 ghost use Rattle.std.specs.Prelude.{◌≤◌, ◌<◌, length, IfOk};
