@@ -25,7 +25,8 @@ use Rattle.mark_laws.specs.Apart.{Apart, Order, order, arena_before, arena_kind,
 use Rattle.mark_laws.specs.Colours.{shade_same, shade_past, named_shade}
 use Rattle.mark_laws.specs.Changes.{Marked}
 use Rattle.mark_laws.specs.Stays.{below, named_stays}
-use Rattle.room_laws.specs.Queues.{queue_count, Held}
+use Rattle.room_laws.specs.Queues.{Held}
+use Rattle.room_laws.proofs.Queues.{queue_count}
 
 -- The bodies of userdata lie behind the prototypes and the bodies of strings, tables, closures and upvalues, and before those
 -- of threads.

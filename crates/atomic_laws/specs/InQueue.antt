@@ -19,11 +19,11 @@ use Rattle.layout.specs.declared.Lay.{Lay}
 use Rattle.lists.specs.declared.Item.{Item}
 use Rattle.lists.specs.declared.Item.TheVariants.{Userdata}
 use Rattle.lists.specs.Lists.{damage, kind_of, index_of, generation_of, item_in, length_of, place, item_at, put_item, push}
-use Rattle.lists.specs.Laws.{item_three, item_back, item_found, push_length, push_items, push_long, push_kept}
+use Rattle.lists.proofs.Laws.{item_three, item_back, item_found, push_length, push_items, push_long, push_kept}
 use Rattle.laid.specs.Laid.{Laid, queue_room_lem}
 use Rattle.separate.specs.Separation.{creation_of, shifts, shifted, placed, queued}
 use Rattle.mark_laws.specs.Apart.{Apart, Order, order}
-use Rattle.room_laws.specs.Queues.{queue_mark, shifted_below}
+use Rattle.room_laws.proofs.Queues.{queue_mark, shifted_below}
 use Rattle.reach.specs.OnLists.{On}
 
 module _ (l : Lay) (ok : Laid l) (a : Apart l) where

@@ -2,11 +2,6 @@ pub mod Kept
 pub mod InQueue
 pub mod Bodies
 pub mod Separates
-pub mod Dues
-pub mod Finishes
 pub mod Notes
-pub mod Notings
 pub mod Spares
-pub mod Survives
-pub mod Planned
 pub mod Alikes

@@ -21,7 +21,7 @@ use Rattle.lists.specs.declared.Item.{Item}
 use Rattle.lists.specs.declared.Item.TheVariants.{Table, Function, Userdata, Thread, Main, Unknown}
 use Rattle.lists.specs.declared.Popped.{Popped}
 use Rattle.lists.specs.Lists.{kind_of, length_of, item_at, push, pop, taken}
-use Rattle.lists.specs.Laws.{pop_some}
+use Rattle.lists.proofs.Laws.{pop_some}
 use Rattle.record.specs.Fields.{body_at}
 use Rattle.record.specs.Tables.{table_meta}
 use Rattle.laid.specs.Laid.{Laid, weak_room_lem}
@@ -53,13 +53,14 @@ use Rattle.room_laws.specs.Pends.{Direct, item_for, marks_keep}
 use Rattle.room_laws.specs.Tallies.{Ample}
 use Rattle.room_laws.specs.Frames.{OnList, other_words, mark_apart, push_only, pop_only}
 use Rattle.room_laws.specs.Paints.{paint_list}
-use Rattle.room_laws.specs.Payments.{Whole, whole_long, marks_whole, table_black, weak_fits}
-use Rattle.room_laws.specs.Steps.{pop_whole}
-use Rattle.room_laws.specs.Walks.{marks_list}
+use Rattle.room_laws.specs.Payments.{Whole}
+use Rattle.room_laws.proofs.Payments.{whole_long, marks_whole, table_black, weak_fits}
+use Rattle.room_laws.proofs.Steps.{pop_whole}
+use Rattle.room_laws.proofs.Walks.{marks_list}
 use Rattle.reach.specs.OnLists.{On, on_same, push_new, push_old, push_was}
 use Rattle.reach.specs.Shades.{paint_upd, push_shade, pop_shade}
 use Rattle.reach.specs.Oks.{Ok}
-use Rattle.reach.specs.Traversals.{less_ok, one_ok}
+use Rattle.reach.proofs.Traversals.{less_ok, one_ok}
 use Rattle.atomic_laws.specs.Kept.{is_weak_table}
 
 -- What is on the weak list is a weak table that is marked, and every black table that is weak is on it.

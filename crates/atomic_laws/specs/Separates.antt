@@ -33,8 +33,9 @@ use Rattle.link_laws.specs.Reads.{Reads, gc_method_same}
 use Rattle.mark_laws.specs.Apart.{Apart, Order, order}
 use Rattle.room_laws.specs.Tallies.{Ample}
 use Rattle.room_laws.specs.Frames.{OnList}
-use Rattle.room_laws.specs.Walks.{run_along}
-use Rattle.room_laws.specs.Queues.{queue_count, Held, held_then, held_none, enqueue_held}
+use Rattle.room_laws.proofs.Walks.{run_along}
+use Rattle.room_laws.specs.Queues.{Held}
+use Rattle.room_laws.proofs.Queues.{queue_count, held_then, held_none, enqueue_held}
 use Rattle.reach.specs.OnLists.{On, on_same, on_none}
 use Rattle.atomic_laws.specs.InQueue.{queued_new, queued_old, queued_was, queued_outside}
 use Rattle.atomic_laws.specs.Bodies.{Bodies, body_next, Flags, flags_reads}

@@ -1,8 +1,8 @@
 -- The walk along a chain, a step at a time: what is left of it answers what the whole does. Assumes nothing.
---     leads-start                            before the first step
---     leads-again, leads-stop, leads-end     a step to a free slot; a step to none; after the last
---     free-none, free-past, free-at          the three ways of a stored word: none, past the fresh index, a slot below it
---     occupied-most                          no more slots are occupied than lie below the fresh index
+--     leads_start                            before the first step
+--     leads_again, leads_stop, leads_end     a step to a free slot; a step to none; after the last
+--     free_none, free_past, free_at          the three ways of a stored word: none, past the fresh index, a slot below it
+--     occupied_most                          no more slots are occupied than lie below the fresh index
 use mathlib.Core.Path.{◌≡◌, ap, ◌∙◌}
 use mathlib.Core.Bool.{Bool, true, false}
 use mathlib.Core.List.{List}

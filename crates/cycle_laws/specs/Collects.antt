@@ -1,9 +1,9 @@
 -- A collection by single steps, from Pause to the first state whose phase is SweepString: what is in the old white then is exactly
 -- what is to be freed, and no damage is marked. Assumes nothing.
---     started-ok, started-noted     the first single step: the roots are marked
---     started-marked                marked is reached, as marked-exact, from the first single step on
---     started-exact, started-whole  the atomic phase, as atomic-exact and atomic-whole
---     collected, planned-collected     the single steps from Pause up to the atomic step; for the layout of any sizes
+--     started_ok, started_noted     the first single step: the roots are marked
+--     started_marked                marked is reached, as marked_exact, from the first single step on
+--     started_exact, started_whole  the atomic phase, as atomic_exact and atomic_whole
+--     collected, planned_collected     the single steps from Pause up to the atomic step; for the layout of any sizes
 use Rattle.std.specs.Prelude.{◌≡◌, ◌⊎◌, ◌↔◌, ◌≢◌, ℕ, min, ◌+◌, ◌≤◌, ◌<◌, length}
 use Rattle.std.proofs.Math.Path.{sym, subst}
 use Rattle.std.proofs.Common.{ap, ◌∙◌, arith, length-set}
@@ -26,20 +26,22 @@ use Rattle.step.specs.Step.{start_cycle}
 use Rattle.link_laws.specs.Roots.{root_links_same}
 use Rattle.mark_laws.specs.Apart.{Apart, apart, Order, order}
 use Rattle.mark_laws.specs.Changes.{tops}
-use Rattle.room_laws.specs.Tallies.{Ample, ample}
-use Rattle.room_laws.specs.Payments.{whole_long}
-use Rattle.room_laws.specs.Queues.{queue_count}
-use Rattle.room_laws.specs.Atomics.{atomic_whole}
+use Rattle.room_laws.specs.Tallies.{Ample}
+use Rattle.room_laws.proofs.Tallies.{ample}
+use Rattle.room_laws.proofs.Payments.{whole_long}
+use Rattle.room_laws.proofs.Queues.{queue_count}
+use Rattle.room_laws.proofs.Atomics.{atomic_whole}
 use Rattle.reach.specs.Reached.{Occupied, Root, Reached}
 use Rattle.reach.specs.Cycle.{AllWhite, advances}
 use Rattle.reach.specs.Oks.{Ok}
-use Rattle.reach.specs.Exact.{None, First, ok_exact, start_ok, advances_ok, marked_ok}
+use Rattle.reach.specs.Exact.{None, First}
+use Rattle.reach.proofs.Exact.{ok_exact, start_ok, advances_ok, marked_ok}
 use Rattle.atomic_laws.specs.Kept.{Kept, Spared}
 use Rattle.atomic_laws.specs.Bodies.{Bodies, bodies}
 use Rattle.atomic_laws.specs.Notes.{Noted}
-use Rattle.atomic_laws.specs.Notings.{rooted_noted, advances_noted, marked_noted}
-use Rattle.atomic_laws.specs.Survives.{flipped_exact}
-use Rattle.atomic_laws.specs.Alikes.{alike_back, root_alike, reached_alike, kept_alike, spared_alike}
+use Rattle.atomic_laws.proofs.Notings.{rooted_noted, advances_noted, marked_noted}
+use Rattle.atomic_laws.proofs.Survives.{flipped_exact}
+use Rattle.atomic_laws.proofs.Alikes.{alike_back, root_alike, reached_alike, kept_alike, spared_alike}
 use Rattle.cycle_laws.specs.Counters.{stored, phase_counter, stored_word, stored_shade, stored_alike, stored_ok, stored_noted, stored_white}
 use Rattle.cycle_laws.specs.Singles.{singles, until_atomic}
 

@@ -1,9 +1,9 @@
 -- The phase and the words of pacing are words that marking neither reads nor writes: all that is proved of words holds of them with
 -- another number there. Assumes nothing.
---     stored-word, stored-shade, stored-list      no other word changes, no colour, no list
---     stored-alike             what is reached, due, kept and spared is the same
---     stored-marked, stored-whole, stored_ok, stored-noted     marking, rooms, the tri-colour invariant and the weak list
---     stored-white             every occupied slot is in the current white
+--     stored_word, stored_shade, stored_list      no other word changes, no colour, no list
+--     stored_alike             what is reached, due, kept and spared is the same
+--     stored_marked, stored_whole, stored_ok, stored_noted     marking, rooms, the tri-colour invariant and the weak list
+--     stored_white             every occupied slot is in the current white
 use Rattle.std.specs.Prelude.{◌≡◌, ◌≢◌, ℕ, zero, suc, ◌+◌, ◌≤◌, ◌<◌, length}
 use Rattle.std.proofs.Common.{sym, ap, subst, ◌∙◌, inl, inr, ⊎_elim, arith, length-set, get_or-set_same, get_or-set_other}
 use mathlib.Core.List.{List, Memᴰ}
@@ -39,7 +39,8 @@ use Rattle.reach.specs.OnLists.{on_same}
 use Rattle.reach.specs.Shades.{shade_alike}
 use Rattle.reach.specs.Oks.{Again, Ok}
 use Rattle.atomic_laws.specs.Notes.{Noted}
-use Rattle.atomic_laws.specs.Alikes.{Alike, reach_alike, occupied_in}
+use Rattle.atomic_laws.specs.Alikes.{Alike}
+use Rattle.atomic_laws.proofs.Alikes.{reach_alike, occupied_in}
 
 -- The words with another number in one place.
 abbrev pub stored : ℕ → ℕ → List ℕ → List ℕ

@@ -1,8 +1,8 @@
 -- Single steps from Pause: the roots, then one gray object or the main thread after the other, then the atomic step. Assumes nothing.
 --     singles             n single steps
---     start-step, gray-step, atomic-step     what a single step is at Pause, and during Propagate
---     advanced-less       each makes the words lighter, so nothing is gray in the end
---     until-atomic        the state after n + 2 steps, for some n, is the one after the atomic step
+--     start_step, gray_step, atomic_step     what a single step is at Pause, and during Propagate
+--     advanced_less       each makes the words lighter, so nothing is gray in the end
+--     until_atomic        the state after n + 2 steps, for some n, is the one after the atomic step
 use Rattle.std.specs.Prelude.{◌≡◌, ◌≢◌, length}
 use Rattle.std.proofs.Math.Path.{refl, ap}
 use Rattle.std.proofs.Common.{sym, ◌∙◌, true≢false}

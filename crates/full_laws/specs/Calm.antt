@@ -13,7 +13,7 @@ use Rattle.layout.specs.declared.Lay.{Lay}
 use Rattle.layout.specs.declared.List.{List as Part}
 use Rattle.layout.specs.Places.{WHITE}
 use Rattle.lists.specs.Lists.{RoomFor, damage, length_of, cleared}
-use Rattle.lists.specs.Laws.{cleared_kept}
+use Rattle.lists.proofs.Laws.{cleared_kept}
 use Rattle.record.specs.Fields.{body_at}
 use Rattle.laid.specs.Laid.{Laid, gray_room_lem, grayagain_room_lem, weak_room_lem}
 use Rattle.mark.specs.Ops.{Ref, ref, gray, grayagain, weak}
@@ -24,10 +24,11 @@ use Rattle.mark_laws.specs.Colours.{named_shade}
 use Rattle.mark_laws.specs.Changes.{Marked, moves_marked, colour_in}
 use Rattle.mark_laws.specs.Moves.{still, emptied}
 use Rattle.mark_laws.specs.RootLinks.{cleared_moves}
-use Rattle.room_laws.specs.Queues.{queue_count}
+use Rattle.room_laws.proofs.Queues.{queue_count}
 use Rattle.reach.specs.Cycle.{AllWhite}
 use Rattle.reach.specs.Shades.{shade_alike}
-use Rattle.atomic_laws.specs.Alikes.{Alike, alike_back, kept_alike, spared_alike}
+use Rattle.atomic_laws.specs.Alikes.{Alike}
+use Rattle.atomic_laws.proofs.Alikes.{alike_back, kept_alike, spared_alike}
 use Rattle.cycle_laws.specs.Collects.{frame_one}
 use Rattle.sweep_laws.specs.Places.{Rows}
 use Rattle.sweep_laws.specs.Repaints.{Repainted}

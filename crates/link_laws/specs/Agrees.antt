@@ -1,9 +1,9 @@
 -- Words that agree on a part, and what is read there: values, handles, and the links of a record. Assumes nothing.
 --     Agree, agree-part                u is as w on n words
---     value_same, table_same, str-same, upval-same     what is read there is the same
+--     value_same, table_same, str_same, upval_same     what is read there is the same
 --     each_same                        lists joined, each the same
---     upvalue-same, userdata-same, thread-same, entries-same     the links of a record that lies there
---     proto-same, closure-same         a closure's, with the prototypes' part
+--     upvalue_same, userdata_same, thread_same, entries_same     the links of a record that lies there
+--     proto-same, closure_same         a closure's, with the prototypes' part
 use Rattle.std.specs.Prelude.{◌≡◌, true, false, eqb}
 use Rattle.std.proofs.Math.Path.{refl, sym, ap}
 use Rattle.std.proofs.Common.{◌∙◌}

@@ -1,9 +1,9 @@
 -- All that links, weak modes and `__gc` methods are read from: words that agree there have the same. The finalized mark of a
 -- userdata, its creation number and the error value of a thread are not among them. Assumes nothing.
 --     Reads                     the two words agree on what is read
---     named-below               a handle names a slot below the slots
---     weak-mode-same, gc-method-same     the mode and the method that a metatable gives
---     links-same                the links of a slot
+--     named_below               a handle names a slot below the slots
+--     weak_mode_same, gc_method_same     the mode and the method that a metatable gives
+--     links_same                the links of a slot
 use Rattle.std.specs.Prelude.{◌≡◌, Bool, true, false, leb, eqb}
 use Rattle.std.proofs.Math.Path.{refl, ap}
 use Rattle.std.proofs.Common.{◌∙◌, arith, leb-false}

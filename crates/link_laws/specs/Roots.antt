@@ -1,7 +1,7 @@
 -- What the roots are read from: the first 52 words, and the main stack, open list and frames. Words that agree there have the
 -- same roots. Assumes nothing.
 --     MainReads           the two words agree on the three parts of the main record
---     root-links-same, main-links-same, roots-same     the roots
+--     root_links_same, main_links_same, roots_same     the roots
 use Rattle.std.specs.Prelude.{◌≡◌, refl}
 use Rattle.std.proofs.Common.{sym, ◌∙◌, arith}
 use Rattle.std.proofs.Math.Path.{ap}

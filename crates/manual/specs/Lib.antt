@@ -1,5 +1,3 @@
 pub mod Manual
 pub mod Instance
-pub mod Records
-pub mod Agrees
 pub mod Agreement

@@ -1,5 +1,5 @@
 -- What the colour of a handle says of it. Assumes nothing.
---     shade-in, named_in, white-in     a handle with a colour, and so a white one, has an index below the slots
+--     shade_in, named_in, white_in     a handle with a colour, and so a white one, has an index below the slots
 use Rattle.std.specs.Prelude.{◌≡◌, refl, ◌≢◌, Bool, true, List as Words, ℕ, zero, suc, ◌<◌}
 use Rattle.std.proofs.Common.{sym, ◌∙◌, true≢false, arith}
 use Rattle.std.proofs.Math.Decide.{dec_lt}

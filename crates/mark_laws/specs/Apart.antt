@@ -1,7 +1,7 @@
 -- The parts of a layout below the boundary stand one after the other. Assumes nothing.
 --     Apart, apart          each part ends where the next begins, or before; the layout of any sizes has it
 --     Order, order          the same with what a planned layout fixes beside: all that the laws of marking use of the places
---     arena-header, arena-next, arena-before, arena-lists     the six arenas by their kinds
+--     arena_header, arena_next, arena_before, arena_lists     the six arenas by their kinds
 use Rattle.std.specs.Prelude.{◌≡◌, ℕ, zero, suc, ◌+◌, ◌*◌, ◌≤◌, ◌<◌}
 use Rattle.std.proofs.Common.{ap, arith}
 use Rattle.std.proofs.Math.Decide.{dec_lt}

@@ -1,8 +1,8 @@
 -- Both barriers. The forward one marks a value or does nothing, so it is moves, and clean. The backward one turns one table
 -- from black to gray and lists it: it leaves what marking leaves, and no other colour falls. Assumes nothing.
---     forward-moves, forward-clean     the forward barrier
---     Turned, back-turned              the backward barrier, on the words
---     back-colour                      the same of the colours of handles
+--     forward_moves, forward_clean     the forward barrier
+--     Turned, back_turned              the backward barrier, on the words
+--     back_colour                      the same of the colours of handles
 use Rattle.std.specs.Prelude.{◌≡◌, ◌⊎◌, ℕ, ◌+◌, ◌≤◌, ◌<◌, length}
 use Rattle.std.proofs.Math.Path.{refl}
 use Rattle.std.proofs.Common.{sym, ap, subst, ◌∙◌, inr, arith, length-set, get_or-set_same, get_or-set_other}

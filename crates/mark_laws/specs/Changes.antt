@@ -1,7 +1,7 @@
 -- What the moves of marking leave, and how they change colours: proved once, of all of them. Assumes nothing.
 --     Untouched         the places that no move writes
 --     Marked            words as long as before, every untouched word as it was, every colour the same or risen
---     moves-marked      all that Moves allows is that
+--     moves_marked      all that Moves allows is that
 use Rattle.std.specs.Prelude.{◌≡◌, ◌⊎◌, ◌≢◌}
 use Rattle.std.proofs.Math.Path.{refl}
 use Rattle.std.proofs.Common.{sym, ap, subst, ◌∙◌, inl, inr, arith, get_or-set_same, get_or-set_other}
@@ -16,7 +16,7 @@ use Rattle.value.specs.Laws.{Outside, outer}
 use Rattle.layout.specs.declared.Lay.{Lay}
 use Rattle.lists.specs.declared.Item.{Item}
 use Rattle.lists.specs.Lists.{RoomFor, length_of, push, pop, cleared}
-use Rattle.lists.specs.Laws.{push_long, push_kept, pop_long, pop_kept, cleared_kept}
+use Rattle.lists.proofs.Laws.{push_long, push_kept, pop_long, pop_kept, cleared_kept}
 use Rattle.laid.specs.Laid.{Laid, gray_room_lem, grayagain_room_lem, weak_room_lem}
 use Rattle.mark.specs.Ops.{Ref, Work, gray, grayagain, weak}
 use Rattle.mark.specs.Words.{arena_of, list_of, colour_w, paint_w}

@@ -1,10 +1,10 @@
 -- What the colour of a handle says. Assumes nothing.
---     shade-most, shade-parts     no colour is more than 4; a handle with a colour names a slot, and has the colour of it
---     shade-is                    the other way round
---     shade-same                  the colour stays where the fresh index, the generation and the colour's word stay
---     shade-past, shade-stale     no colour past the fresh index, none for another generation
---     named-shade                 a handle names its slot exactly if it has a colour
---     white-true, white-false, not_white     the whites are 1 and 2
+--     shade_most, shade_parts     no colour is more than 4; a handle with a colour names a slot, and has the colour of it
+--     shade_is                    the other way round
+--     shade_same                  the colour stays where the fresh index, the generation and the colour's word stay
+--     shade_past, shade_stale     no colour past the fresh index, none for another generation
+--     named_shade                 a handle names its slot exactly if it has a colour
+--     white_true, white_false, not_white     the whites are 1 and 2
 use Rattle.std.specs.Prelude.{◌≡◌, Bool, List as Words, ◌≢◌, ℕ, zero, suc, ◌+◌, ◌≤◌, ◌<◌}
 use Rattle.std.proofs.Math.Path.{refl, sym}
 use Rattle.std.proofs.Math.Bool.{true, false, cond}

@@ -1,9 +1,9 @@
 -- Propagation ends: a step takes an item off the gray list and makes the words lighter, so after as many steps as are made
 -- the gray list is empty, whatever the words hold. Assumes nothing.
 --     push-lighter                     a push onto grayagain or weak makes nothing heavier
---     table-lighter, closure-light, thread-lighter, item-lighter     the traversals
---     one-empty, one-less              one step: nothing is gray, or the words are lighter by one
---     for-empty, all-empty             enough steps leave nothing gray, and all of propagation has enough
+--     table_lighter, closure_light, thread_lighter, item_lighter     the traversals
+--     one_empty, one-less              one step: nothing is gray, or the words are lighter by one
+--     for_empty, all_empty             enough steps leave nothing gray, and all of propagation has enough
 use Rattle.std.specs.Prelude.{◌≡◌, Bool, cond, ◌≢◌, length}
 use Rattle.std.proofs.Math.Path.{refl, ap}
 use Rattle.std.proofs.Common.{sym, subst, ◌∙◌, inl, arith}
@@ -19,7 +19,7 @@ use Rattle.lists.specs.declared.Item.{Item}
 use Rattle.lists.specs.declared.Item.TheVariants.{Table, Function, Userdata, Thread, Main, Unknown}
 use Rattle.lists.specs.declared.Popped.{Popped}
 use Rattle.lists.specs.Lists.{length_of, item_at, push, taken, pop}
-use Rattle.lists.specs.Laws.{push_kept, pop_none, pop_some, pop_length}
+use Rattle.lists.proofs.Laws.{push_kept, pop_none, pop_some, pop_length}
 use Rattle.record.specs.Fields.{body_at}
 use Rattle.record.specs.Tables.{table_meta}
 use Rattle.laid.specs.Laid.{Laid, gray_room_lem}

@@ -1,9 +1,9 @@
 -- Each definition of marking marks exactly the links that `links` lists, read from the words before any marking: `w` are
 -- those, `u` the words that the definition is given. Assumes nothing.
---     value-links, table-link           a value, a handle that may be missing
---     loop-links                        a loop whose turns mark lists marks the lists joined
---     values-links, upvalues-links      runs of values and of upvalues
---     userdata-links, upvalue-links     the kinds that are followed at once
+--     value_links_lem, table_link_lem           a value, a handle that may be missing
+--     loop_links                        a loop whose turns mark lists marks the lists joined
+--     values_links_lem, upvalues_links      runs of values and of upvalues
+--     userdata_links_lem, upvalue_links_lem     the kinds that are followed at once
 use Rattle.std.specs.Prelude.{◌≡◌, Bool, true, false, List, [], ◌∷◌, eqb, length}
 use Rattle.std.proofs.Math.Path.{refl, sym, ap}
 use Rattle.std.proofs.Common.{◌∙◌, inr}

@@ -1,8 +1,8 @@
 -- How many items of one kind a working list holds. Assumes nothing.
---     items_to, items_of, items-same     among the first n, and in all; they stay where the items' words stay
---     push-counts        a push adds one at most, and only of its item's kind
---     pop-counts         a pop takes one of its item's kind
---     item-kind          the kind of an item that is known is the word that it is read from
+--     items_to, items_of, items_same     among the first n, and in all; they stay where the items' words stay
+--     push_counts        a push adds one at most, and only of its item's kind
+--     pop_counts         a pop takes one of its item's kind
+--     item_kind_lem          the kind of an item that is known is the word that it is read from
 use Rattle.std.specs.Prelude.{◌≡◌, refl, Bool, true, false, cond, List as Words, ◌≢◌, ℕ, zero, suc, min, ◌+◌, ◌-◌, ◌*◌, ◌≤◌, ◌<◌, eqb}
 use Rattle.std.proofs.Common.{sym, ap, ◌∙◌, inl, arith, eqb-true}
 use Rattle.std.proofs.Math.Decide.{dec_lt}
@@ -15,7 +15,8 @@ use Rattle.lists.specs.declared.Item.{Item}
 use Rattle.lists.specs.declared.Item.TheVariants.{Table, Function, Userdata, Thread, Main, Unknown}
 use Rattle.lists.specs.declared.Popped.{Popped}
 use Rattle.lists.specs.Lists.{damage, RoomFor, kind_of, index_of, generation_of, item_of, put_item, length_of, place, stored, push, taken}
-use Rattle.lists.specs.Laws.{Apart, stored_kept, push_stored, push_full, push_length, push_full_length, taken_kept, pop_some, pop_length}
+use Rattle.lists.specs.Laws.{Apart}
+use Rattle.lists.proofs.Laws.{stored_kept, push_stored, push_full, push_length, push_full_length, taken_kept, pop_some, pop_length}
 
 -- 1 for yes, 0 for no
 abbrev pub one : Bool → ℕ

@@ -1,9 +1,9 @@
 -- The links of each kind as one list, `links`, and what marking does by kind: a string, an upvalue or a userdata that is
 -- white becomes black and its links are marked at once; the other kinds become gray and their links are marked when they are
 -- traversed. `w` are the words before any marking, `u` those that a definition is given. Assumes nothing.
---     links-string, links-table, links-closure, links-upvalue, links-userdata, links-thread     what `links` lists for a kind
---     string-direct, upvalue-direct, userdata-direct     the kinds that are followed at once
---     closure-later, thread-later      the traversals of closures and threads (a table has its listing in between: table-links)
+--     links_string, links_table, links_closure, links_upvalue, links_userdata, links_thread     what `links` lists for a kind
+--     string_direct, upvalue_direct, userdata_direct     the kinds that are followed at once
+--     closure_later, thread_later      the traversals of closures and threads (a table has its listing in between: table_links_lem)
 use Rattle.std.specs.Prelude.{◌≡◌, Bool, List, [], ℕ, ◌≤◌, length}
 use Rattle.std.proofs.Math.Path.{refl, ap}
 use Rattle.std.proofs.Common.{sym, ◌∙◌}

@@ -1,7 +1,7 @@
 -- Traversing the main thread marks exactly its links. `w` are the words before any marking, `u` those that a definition is
 -- given. Assumes nothing.
---     frames-links, main-links     stack, open upvalues, error value, hook function, frames
---     main-traversed, main-moves   it is traversed, and listed in grayagain; that is moves
+--     frames_links, main_links_lem     stack, open upvalues, error value, hook function, frames
+--     main_traversed, main_moves   it is traversed, and listed in grayagain; that is moves
 use Rattle.std.specs.Prelude.{◌≡◌, refl, length}
 use Rattle.std.proofs.Math.Path.{sym, ap}
 use Rattle.std.proofs.Common.{◌∙◌, inl, inr, arith}

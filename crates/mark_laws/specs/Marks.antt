@@ -1,8 +1,8 @@
 -- Marking a list of links: each link in turn, by the function of its kind. Assumes nothing.
---     mark_ref, marks, marks-append, marks-none      the definitions; one list after the other; the empty list
---     ref-moves, marks-moves, marks-marked      they are moves
---     NoWhite, marks-again              marking what is not white changes nothing
---     ref-done, marks-done, dark-stays  what was marked is not white, and stays so
+--     mark_ref, marks, marks_append, marks_none      the definitions; one list after the other; the empty list
+--     ref_moves, marks_moves, marks_marked      they are moves
+--     NoWhite, marks_again              marking what is not white changes nothing
+--     ref_done, marks_done, dark_stays  what was marked is not white, and stays so
 use Rattle.std.specs.Prelude.{◌≡◌, Bool, ℕ, zero, suc, ◌+◌, ◌≤◌, ◌<◌, length}
 use Rattle.std.proofs.Math.Path.{refl, ap}
 use Rattle.std.proofs.Common.{◌∙◌, arith, get_or-set_same}

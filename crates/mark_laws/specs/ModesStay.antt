@@ -1,7 +1,7 @@
 -- Marking leaves the entries of every table, and so the mode that a metatable gives. Assumes nothing.
---     size-stays, nodes-stay, key-stays, node-value-stays     the parts of a table's record
---     look-stays, field-stays       a name looked up in a table
---     weak-mode-stays, gc-method-stays     the mode, and the finalizer, that a metatable gives
+--     size_stays, nodes_stay, key_stays, node_value_stays     the parts of a table's record
+--     look_stays, field_stays       a name looked up in a table
+--     weak_mode_stays, gc_method_stays     the mode, and the finalizer, that a metatable gives
 use Rattle.std.specs.Prelude.{◌≡◌, List as Words}
 use Rattle.std.proofs.Math.Path.{refl, ap}
 use Rattle.std.proofs.Common.{◌∙◌, inl, inr, arith}

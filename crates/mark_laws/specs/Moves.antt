@@ -1,7 +1,7 @@
 -- What marking does to the words of a heap, as one relation, and that each definition of marking does no more. Assumes nothing.
---     Rising, Moves, moves-then     a colour that rises; the moves; one after the other
---     string-moves, table-moves, closure-moves, thread-moves, table-or-moves, userdata-follows, userdata-moves, value-moves,
---     value-at-moves, upvalue-follows, upvalue-moves, values-move, upvalues-move     each definition of marking
+--     Rising, Moves, moves_then     a colour that rises; the moves; one after the other
+--     string_moves, table_moves, closure_moves, thread_moves, table_or_moves, userdata_follows, userdata_moves, value_moves,
+--     value_at_moves, upvalue_follows, upvalue_moves, values_move, upvalues_move     each definition of marking
 use Rattle.std.specs.Prelude.{◌≡◌, Bool, cond, ℕ, ◌+◌, ◌*◌, ◌≤◌}
 use Rattle.std.proofs.Math.Path.{refl}
 use Rattle.std.proofs.Common.{sym, subst, arith}

@@ -1,6 +1,6 @@
 -- Propagation is moves, whatever the lists hold: so all that is proved of moves holds of any number of steps. Assumes nothing.
---     table-whole, closure-whole, thread-whole, again-whole     a traversal by handle; one that names nothing changes nothing
---     item-moves, one-moves, for-moves, all-moves     an item, one step, n steps, all of it
+--     table_whole, closure_whole, thread_whole, again_whole     a traversal by handle; one that names nothing changes nothing
+--     item_moves, one_moves, for_moves, all_moves     an item, one step, n steps, all of it
 use Rattle.std.specs.Prelude.{◌≡◌, Bool, cond, length}
 use Rattle.std.proofs.Math.Path.{refl}
 use Rattle.std.proofs.Common.{subst, arith}

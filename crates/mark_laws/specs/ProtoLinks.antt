@@ -1,9 +1,9 @@
 -- Marking a prototype's constants and those of all nested ones marks exactly its links. The walk keeps a set of the numbers
 -- seen and takes each once; the list of links does not: the set changes nothing of the effect, because a number that was
 -- seen has no white link, and marking what is not white changes nothing. Assumes nothing.
---     constants-links      the constants of one prototype
+--     constants_links      the constants of one prototype
 --     Walked, Went, walk   what is known of the set, what a walk does, and that each walk does it
---     proto-links          the walk of a prototype marks exactly its links
+--     proto_links_lem          the walk of a prototype marks exactly its links
 use Rattle.std.specs.Prelude.{◌≡◌, ◌⊎◌, ◌≢◌, length, replicate}
 use Rattle.std.proofs.Math.Path.{refl, sym, ap, subst}
 use Rattle.std.proofs.Common.{◌∙◌, inr, arith, get_or-set_other}

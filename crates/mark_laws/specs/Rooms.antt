@@ -1,7 +1,7 @@
 -- The working lists stay within their rooms, and so propagation does not set the damage mark. Assumes nothing.
 --     Roomy              each sum is at most the room of its list
---     item-spends, some-spends     what is done with an item; taking it off the gray list and doing it takes no room
---     one-spends, for-spends, spends-roomy, all-roomy     a step, n steps, all of propagation: within the rooms, and no damage
+--     item_spends, some_spends     what is done with an item; taking it off the gray list and doing it takes no room
+--     one_spends, for_spends, spends_roomy, all_roomy     a step, n steps, all of propagation: within the rooms, and no damage
 use Rattle.std.specs.Prelude.{◌≡◌, refl, Bool, cond, ◌≢◌, eqb, length}
 use Rattle.std.proofs.Common.{sym, ap, subst, ◌∙◌, inl, arith, eqb-true, eq-eqb}
 use Rattle.std.proofs.Math.Bool.{true, false}
@@ -14,7 +14,7 @@ use Rattle.lists.specs.declared.Item.{Item}
 use Rattle.lists.specs.declared.Item.TheVariants.{Table, Function, Userdata, Thread, Main, Unknown}
 use Rattle.lists.specs.declared.Popped.{Popped}
 use Rattle.lists.specs.Lists.{damage, kind_of, item_in, length_of, place, item_at, taken, pop}
-use Rattle.lists.specs.Laws.{item_found, pop_some, pop_length, pop_kept}
+use Rattle.lists.proofs.Laws.{item_found, pop_some, pop_length, pop_kept}
 use Rattle.lists.specs.Laws as lists
 use Rattle.record.specs.Fields.{body_at}
 use Rattle.laid.specs.Laid.{Laid, gray_room_lem}

@@ -1,7 +1,7 @@
 -- Marking the roots marks exactly their links. `w` are the words before any marking, `u` those that a definition is given.
 -- Assumes nothing.
---     cleared-moves                the lists are emptied before, which is moves
---     types-links, roots-links, roots-moves     the main thread is listed, and the other roots are marked; that is moves
+--     cleared_moves                the lists are emptied before, which is moves
+--     types_links, roots_links, roots_moves     the main thread is listed, and the other roots are marked; that is moves
 use Rattle.std.specs.Prelude.{◌≡◌, refl, length}
 use Rattle.std.proofs.Math.Path.{sym, ap}
 use Rattle.std.proofs.Common.{subst, ◌∙◌, inl, arith}

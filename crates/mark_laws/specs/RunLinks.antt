@@ -1,8 +1,8 @@
 -- Traversing a closure or a thread marks exactly its links. `w` are the words before any marking, `u` those that a definition
 -- is given. Assumes nothing.
---     closure-links, closure-traversed      a closure is painted, its links are marked; that is moves
---     thread-links, thread-traversed        a thread is painted, its links are marked, and it is listed in grayagain
---     again-links, again-traversed          the atomic phase marks them once more, but for the hook function
+--     closure_links_lem, closure_traversed      a closure is painted, its links are marked; that is moves
+--     thread_links_lem, thread_traversed        a thread is painted, its links are marked, and it is listed in grayagain
+--     again_links, again_traversed          the atomic phase marks them once more, but for the hook function
 use Rattle.std.specs.Prelude.{◌≡◌, refl, Bool, true, false, eqb, length}
 use Rattle.std.proofs.Math.Path.{sym, ap}
 use Rattle.std.proofs.Common.{subst, ◌∙◌, inr, arith}

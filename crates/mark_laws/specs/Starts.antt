@@ -1,9 +1,9 @@
 -- A collection starts within the rooms, whatever the words hold: the lists are emptied and the roots marked, which leaves the
 -- damage mark as it was, and room in grayagain for the main thread. Assumes nothing.
 --     Rooms, rooms        the rooms that the lists have beside the slots; the layout of any sizes has them
---     cleared-empty       after the clearing the three lists are empty, and the damage mark is as it was
---     start-roomy         after the roots the lists are within their rooms, and the damage mark is as it was
---     main-roomy          the main thread's traversal keeps that
+--     cleared_empty       after the clearing the three lists are empty, and the damage mark is as it was
+--     start_roomy         after the roots the lists are within their rooms, and the damage mark is as it was
+--     main_roomy          the main thread's traversal keeps that
 use Rattle.std.specs.Prelude.{◌≡◌, refl, List, ◌≢◌, ℕ, min, ◌+◌, ◌≤◌, ◌<◌, length}
 use Rattle.std.proofs.Common.{sym, subst, ◌∙◌, inl, arith}
 use Rattle.std.proofs.Math.Path.{ap}
@@ -13,7 +13,7 @@ use Rattle.layout.specs.declared.Lay.{Lay}
 use Rattle.layout.specs.Layout.{lay_of}
 use Rattle.lists.specs.declared.Item.TheVariants.{Main}
 use Rattle.lists.specs.Lists.{damage, length_of, push, cleared}
-use Rattle.lists.specs.Laws.{push_kept, push_length, push_unmarked, cleared_length, cleared_kept}
+use Rattle.lists.proofs.Laws.{push_kept, push_length, push_unmarked, cleared_length, cleared_kept}
 use Rattle.lists.specs.Laws as lists
 use Rattle.laid.specs.Laid.{Laid, gray_room_lem}
 use Rattle.mark.specs.Ops.{Work, gray, grayagain, weak}

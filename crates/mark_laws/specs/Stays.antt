@@ -1,9 +1,9 @@
 -- What marking leaves as it was, and what it does to colours. `w` are the words before, `u` those after. Assumes nothing.
---     below, past-stays                     the first 52 words and all from the boundary on
---     value_stays, table_stays, str-stays, upval-stays     so what is read there
---     head-stays, fresh-stays, count-stays, gen-stays, link_stays, extent-stays     the arenas, but for their colours
---     colour-rises, free_stays, never-falls, marked-stays     colours stay or rise
---     named-stays                           the handles that name a slot
+--     below, past_stays                     the first 52 words and all from the boundary on
+--     value_stays, table_stays, str_stays, upval_stays     so what is read there
+--     head_stays, fresh_stays, count_stays, gen_stays, link_stays, extent_stays     the arenas, but for their colours
+--     colour_rises, free_stays, never_falls, marked_stays     colours stay or rise
+--     named_stays                           the handles that name a slot
 use Rattle.std.specs.Prelude.{◌≡◌, refl, false, List as Words, ◌⊎◌, ℕ, zero, suc, ◌+◌, ◌-◌, ◌*◌, ◌≤◌, ◌<◌, drop}
 use Rattle.std.proofs.Common.{sym, ap, ◌∙◌, inl, inr, arith, length-drop, get_or-drop, ext_get_or}
 use Rattle.std.proofs.Math.Decide.{dec_lt, ℕ_discrete}

@@ -2,9 +2,9 @@
 -- of a table, and that took a white table: so white tables, gray items of tables and weak items are counted together;
 -- threads and grayagain likewise. Assumes nothing.
 --     stock_weak, stock_again      the sums
---     Spends, spends-then        a part of marking lists at most p weak and q again, and marks no damage within the rooms
---     weak-spends, again-spends  a push onto weak, and one onto grayagain
---     table-spends, closure-spends, thread-spends, main-spends     the traversals
+--     Spends, spends_then        a part of marking lists at most p weak and q again, and marks no damage within the rooms
+--     weak_spends, again_spends  a push onto weak, and one onto grayagain
+--     table_spends, closure_spends, thread_spends, main_spends     the traversals
 use Rattle.std.specs.Prelude.{◌≡◌, refl, Bool, cond, List, ◌≢◌, ℕ, min, ◌+◌, ◌*◌, ◌≤◌, ◌<◌, length}
 use Rattle.std.proofs.Common.{sym, ap, subst, ◌∙◌, inl, arith}
 use Rattle.std.proofs.Math.Bool.{true, false}
@@ -17,7 +17,7 @@ use Rattle.layout.specs.declared.Lay.{Lay}
 use Rattle.lists.specs.declared.Item.{Item}
 use Rattle.lists.specs.declared.Item.TheVariants.{Table, Thread, Main}
 use Rattle.lists.specs.Lists.{damage, RoomFor, length_of, push}
-use Rattle.lists.specs.Laws.{push_kept, push_length, push_full_length, push_unmarked}
+use Rattle.lists.proofs.Laws.{push_kept, push_length, push_full_length, push_unmarked}
 use Rattle.lists.specs.Laws as lists
 use Rattle.record.specs.Fields.{body_at}
 use Rattle.record.specs.Tables.{table_meta}

@@ -1,9 +1,9 @@
 -- Traversing a table marks exactly its links. `w` are the words before any marking, `u` those that a definition is given,
 -- `b` the bytes. Assumes nothing.
---     array-links, nodes-links, entries-links     the parts of a table: array, nodes, both
---     table-links          a table is painted, its metatable is marked, it is listed if it is weak, its entries are marked
---     table-both           the links of the metatable and of the entries are the table's links
---     table-traversed      traversing it is moves
+--     array_links, nodes_links, entries_links     the parts of a table: array, nodes, both
+--     table_links_lem          a table is painted, its metatable is marked, it is listed if it is weak, its entries are marked
+--     table_both           the links of the metatable and of the entries are the table's links
+--     table_traversed      traversing it is moves
 use Rattle.std.proofs.Math.Path.{◌≡◌, refl, sym, ap}
 use Rattle.std.proofs.Common.{subst, ◌∙◌, true≢false, inr, arith}
 use Rattle.std.specs.Prelude.{Bool, length}

@@ -1,9 +1,9 @@
 -- The weight of the words: the white tables, closures and threads, and the items on the gray list. Marking makes it no
 -- heavier, and while it is at most the gray list's room, marking does not set the damage mark. The same is true of tables
 -- alone, and of threads alone; and marking leaves grayagain and weak as long as they are. Assumes nothing.
---     weight, weight-most, supply     the weight; what it is at most, whatever the words hold; the part of one kind
+--     weight, weight_most, supply     the weight; what it is at most, whatever the words hold; the part of one kind
 --     Lighter, Clean              marked and no heavier; and all that is said above
---     string-clean, table-clean, closure-clean, thread-clean, userdata-clean, value-clean, upvalue-clean, marks-clean
+--     string_clean, table_clean, closure_clean, thread_clean, userdata_clean, value_clean, upvalue_clean, marks_clean
 use Rattle.std.specs.Prelude.{◌≡◌, Bool, true, false, cond, ◌≢◌, eqb, length}
 use Rattle.std.proofs.Math.Path.{refl}
 use Rattle.std.proofs.Common.{sym, ap, subst, ◌∙◌, inl, arith, get_or-set_other, eqb-true}
@@ -20,7 +20,7 @@ use Rattle.layout.specs.declared.Lay.{Lay}
 use Rattle.lists.specs.declared.Item.{Item}
 use Rattle.lists.specs.declared.Item.TheVariants as item
 use Rattle.lists.specs.Lists.{damage, kind_of, length_of, push}
-use Rattle.lists.specs.Laws.{push_length, push_full_length, push_unmarked, push_kept}
+use Rattle.lists.proofs.Laws.{push_length, push_full_length, push_unmarked, push_kept}
 use Rattle.lists.specs.Laws as lists
 use Rattle.record.specs.Fields.{body_at}
 use Rattle.record.specs.Userdata.{ud_meta, ud_env}

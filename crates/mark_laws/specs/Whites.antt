@@ -1,7 +1,7 @@
 -- How many slots are white, and that marking makes them fewer. Assumes nothing.
---     whites_to, whites-most       the whites among n colours
---     whites_of, whites-room       the white tables, closures and threads, the kinds that are listed gray; how many there can be
---     fall, less, whites-fall, whites-less    marking makes none white; a slot that was white and is not makes one fewer
+--     whites_to, whites_most       the whites among n colours
+--     whites_of, whites_room       the white tables, closures and threads, the kinds that are listed gray; how many there can be
+--     fall, less, whites_fall, whites_less    marking makes none white; a slot that was white and is not makes one fewer
 use Rattle.std.specs.Prelude.{◌≡◌, refl, Bool, true, false, cond, List as Words, ℕ, zero, suc, ◌+◌, ◌≤◌, ◌<◌}
 use Rattle.std.proofs.Common.{sym, ap, ◌∙◌, inl, inr, arith}
 use Rattle.std.proofs.Math.Decide.{ℕ_discrete}

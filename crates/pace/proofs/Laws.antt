@@ -1,7 +1,7 @@
 -- One turn of each loop of steps, and its end. Assumes nothing.
 --     most                                         the ends of a layout's sizes
---     Budgeting, turn_on, turn-over, turn-none     the budgeted loop
---     Driving, drive-through, drive-on, drive-out, drive-none     the loop of a full collection
+--     Budgeting, turn_on, turn_over, turn_none     the budgeted loop
+--     Driving, drive_through, drive_on, drive_out, drive_none     the loop of a full collection
 use mathlib.Core.Path.{◌≡◌, refl, sym, ap, ◌∙◌}
 use mathlib.Core.List.{List}
 use Prim.Native.Nat.{ℕ, zero, suc, ◌-◌, ◌≤◌, ◌<◌}

@@ -20,11 +20,11 @@ use Rattle.lists.specs.Lists.{damage, length_of}
 use Rattle.mark.specs.Words.{arena_of, colour_w}
 use Rattle.reach.specs.Reached.{Occupied}
 use Rattle.reach.specs.Cycle.{AllWhite}
-use Rattle.atomic_laws.specs.Dues.{shade_colour}
+use Rattle.atomic_laws.proofs.Dues.{shade_colour}
 use Rattle.sweep_laws.specs.Turns.{Arenas}
 use Rattle.sweep_laws.specs.Collections.{slot_at, Freed}
 use Rattle.sweep_laws.specs.Mixtures.{Outcome}
-use Rattle.sweep_laws.specs.Outcomes.{listed}
+use Rattle.sweep_laws.proofs.Outcomes.{listed}
 use Rattle.pace_laws.specs.Budgets.{Call, calls, planned_calls}
 
 -- A falling list is known by what it holds.

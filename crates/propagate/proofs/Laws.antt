@@ -1,8 +1,8 @@
 -- How many steps there can be, and one step of the loop by the definition. Assumes nothing.
---     gray-most, slots-most     what a planned layout gives
+--     gray_most, slots_most     what a planned layout gives
 --     Steps                     the invariant: what is left of the steps gives the whole, and the words stay as many
---     all-stops, all-goes       a step that finds nothing gray, and any other
---     all-over                  no step is left
+--     all_stops, all_goes       a step that finds nothing gray, and any other
+--     all_over                  no step is left
 use mathlib.Core.Path.{◌≡◌, refl, sym, ap, ◌∙◌}
 use mathlib.Core.Bool.{Bool, true, false, not}
 use mathlib.Core.List.{List}

@@ -4,5 +4,4 @@ pub mod Tri
 pub mod OnLists
 pub mod Shades
 pub mod Oks
-pub mod Traversals
 pub mod Exact

@@ -10,7 +10,8 @@ use Rattle.layout.specs.declared.List.{List}
 use Rattle.lists.specs.declared.Item.{Item}
 use Rattle.lists.specs.declared.Popped.{Popped}
 use Rattle.lists.specs.Lists.{RoomFor, item_in, length_of, place, item_at, push, taken}
-use Rattle.lists.specs.Laws.{Apart, item_three, item_found, stored_item, push_stored, push_length, push_full_length, push_items, taken_kept, pop_some, pop_length}
+use Rattle.lists.specs.Laws.{Apart}
+use Rattle.lists.proofs.Laws.{item_three, item_found, stored_item, push_stored, push_length, push_full_length, push_items, taken_kept, pop_some, pop_length}
 use Rattle.room_laws.specs.Frames.{OnList}
 
 -- The item stands on the list.

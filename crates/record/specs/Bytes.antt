@@ -1,7 +1,7 @@
 -- The byte search and comparison, a place at a time: what the rest from place k on gives is what the whole gives.
---     has-again, has-found, has_end              one place is passed; the byte is there; the end
---     same-again, same-other, same_end           the same for comparison
---     same-short                                 texts of different lengths differ
+--     has_again, has_found, has_end              one place is passed; the byte is there; the end
+--     same_again, same_other, same_end           the same for comparison
+--     same_short                                 texts of different lengths differ
 -- Assumes nothing.
 use Rattle.std.specs.Prelude.{◌≡◌, refl, Bool, true, false, cond, List, [], ◌∷◌, ℕ, suc, ◌+◌, ◌≤◌, ◌<◌, eqb, length, drop}
 use Rattle.std.proofs.Common.{ap, arith, drop-cons}

@@ -1,8 +1,8 @@
 -- What a store leaves as it was. `Only p n w u` says that u is w but for the n words from p on. Assumes nothing.
---     only-put, only_two, only-value, only-handle, only-table, only-str, only-upval, only-64, only-flag     each kind of store
---     only_then, only-in                    one store after the other; a part of a wider part
---     word-stays, count-stays, value_stays, table_stays, str-stays, upval-stays, long-stays     what is read apart from it
---     below_stays, past-stays               the words below a boundary, and those past it
+--     only_put, only_two, only_value, only_handle, only_table, only_str, only_upval, only_64, only_flag     each kind of store
+--     only_then, only_in                    one store after the other; a part of a wider part
+--     word_stays, count_stays, value_stays, table_stays, str_stays, upval_stays, long_stays     what is read apart from it
+--     below_stays, past_stays               the words below a boundary, and those past it
 use Rattle.std.specs.Prelude.{◌≡◌, Bool, List, ◌⊎◌, ℕ, ◌+◌, ◌-◌, ◌≤◌, ◌<◌, min, length, take, drop}
 use Rattle.std.proofs.Common.{sym, ap, ◌∙◌, inl, inr, arith, length-set, length-take, length-drop, get_or-set_other, get_or-take, get_or-drop, ext_get_or}
 use Rattle.base.specs.Words.{at, put, bounded, get64, put64}

@@ -22,7 +22,7 @@ use Rattle.layout.specs.Places.{PHASE, WHITE, CURSOR_ARENA, CURSOR_SLOT, TOTAL, 
 use Rattle.lists.specs.declared.Item.{Item}
 use Rattle.lists.specs.declared.Item.TheVariants.{Table, Function, Userdata, Thread, Main, Unknown}
 use Rattle.lists.specs.Lists.{damage, length_of, item_at}
-use Rattle.lists.specs.Laws.{cleared_kept}
+use Rattle.lists.proofs.Laws.{cleared_kept}
 use Rattle.record.specs.Fields.{body_at}
 use Rattle.record.specs.Tables.{table_meta, array_size, node_count}
 use Rattle.laid.specs.Laid.{Laid, weak_room_lem}

@@ -12,7 +12,7 @@ use Rattle.layout.specs.declared.List.{List}
 use Rattle.layout.specs.declared.Lay.{Lay}
 use Rattle.lists.specs.declared.Item.{Item}
 use Rattle.lists.specs.Lists.{damage, length_of, push, pop, cleared}
-use Rattle.lists.specs.Laws.{push_kept, pop_kept, cleared_kept}
+use Rattle.lists.proofs.Laws.{push_kept, pop_kept, cleared_kept}
 use Rattle.lists.specs.Laws as lists
 use Rattle.laid.specs.Laid.{Laid}
 use Rattle.mark.specs.Ops.{Work, gray, grayagain, weak}

@@ -6,7 +6,5 @@ pub mod Paints
 pub mod Payments
 pub mod Steps
 pub mod Cycles
-pub mod Walks
 pub mod Queues
 pub mod Flips
-pub mod Atomics

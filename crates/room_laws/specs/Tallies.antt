@@ -2,12 +2,10 @@
 -- rests that no list passes its room. Assumes nothing.
 --     Tally, tally      the numbers
 --     Paid              each list's items, with what is kept free of it, against the slots that pay for them
---     Ample, ample      the rooms of the lists, as document 01 gives them; the layout of any sizes has them
+--     Ample             the rooms of the lists, as document 01 gives them
 use Rattle.std.specs.Prelude.{List, ℕ, ◌+◌, ◌*◌, ◌≤◌}
 use Rattle.std.proofs.Common.{arith}
-use Rattle.layout.specs.declared.Sizes.{Sizes}
 use Rattle.layout.specs.declared.Lay.{Lay}
-use Rattle.layout.specs.Layout.{lay_of}
 use Rattle.lists.specs.Lists.{length_of}
 use Rattle.mark.specs.Words.{arena_of}
 use Rattle.mark_laws.specs.Items.{items_of}
@@ -64,11 +62,6 @@ pub record Ample (l : Lay) : Type 0 where
   pub weak : 2 * l.tables.slots ≤ l.weak.room
   pub again : l.tables.slots + l.threads.slots + 1 ≤ l.grayagain.room
   pub queue : l.userdata.slots ≤ l.queue.room
-
--- The layout of any sizes has them.
-pub ample : (s : Sizes) → Ample (lay_of s)
-unfolding lay_of
-ample s = record { gray = omega arith; weak = omega arith; again = omega arith; queue = omega arith }
 
 -- Fewer items and more slots that pay are paid for as well.
 pub paid_less : (x y : Tally) {p t q : ℕ} → Paid x p t q → y.gray ≤ x.gray → y.weak ≤ x.weak → y.again ≤ x.again

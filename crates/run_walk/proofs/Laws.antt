@@ -1,9 +1,9 @@
 -- The parts of a layout in a number of words; one prototype by the definition, step by step. Assumes nothing.
---     parts_in, stack-most, frames-most                  what a planned layout gives
+--     parts_in, stack_most, frames_most                  what a planned layout gives
 --     Nested                                             the invariant of the loop over nested prototypes
---     below-enough, proto-step                           any bound above a number walks it the same way
---     nested-below, nested-skipped                       the two ways of a turn
---     proto-seen, proto-walked                           the two ways of a walk
+--     below_enough, proto_step                           any bound above a number walks it the same way
+--     nested_below, nested_skipped                       the two ways of a turn
+--     proto_seen, proto_walked                           the two ways of a walk
 use mathlib.Core.Path.{◌≡◌, refl, sym, ◌∙◌}
 use mathlib.Core.List.{List}
 use Prim.Native.Nat.{ℕ, zero, suc, ◌≤◌, ◌<◌}

@@ -1,10 +1,10 @@
 -- Laws of bytes kept one after another.
---     said-append       a text after a text
---     said-within       what is said ends within the bytes, whose length stays
---     said-again        what a text from place i on says
---     gather-again      a byte of a part; gather-whole its newline; gather-end its end
---     gather-count      what is gathered lies within the line's bytes
---     gather-past       reading goes forward; gather-most: within the part
+--     said_append       a text after a text
+--     said_within       what is said ends within the bytes, whose length stays
+--     said_again        what a text from place i on says
+--     gather_again      a byte of a part; gather_whole its newline; gather_end its end
+--     gather_count      what is gathered lies within the line's bytes
+--     gather_past       reading goes forward; gather_most: within the part
 -- Assumes nothing.
 use Rattle.std.specs.Prelude.{◌≡◌, Bool, true, false, cond, List, [], ◌∷◌, ◌++◌, ℕ, suc, ◌+◌, ◌≤◌, ◌<◌, ltb, length, drop, set}
 use Rattle.std.proofs.Math.Path.{refl}

@@ -1,5 +1,5 @@
 -- Laws of the finalizers that a collection hands out.
---     handing-again, handing-end     one more finalizer is handed out; none is left to be
+--     handing_again, handing_end     one more finalizer is handed out; none is left to be
 -- Assumes nothing.
 use Rattle.std.specs.Prelude.{◌≡◌, refl, true, List, [], ◌∷◌, ◌++◌, ℕ, zero, suc, ◌-◌, ◌≤◌, ◌<◌}
 use Rattle.std.proofs.Common.{sym, ap, ◌∙◌}

@@ -1,8 +1,8 @@
 -- Laws of a line's fields, a place at a time: what the bytes from place i on give is what the whole gives.
---     space-again, space-found, space-end                   the first space
---     number-part, number-low, number-high, number_past     a space ends a number; a byte or a value that makes it none
---     number-again, number-end                              one more digit; the end of the line
---     word-past                                             past the line there is no word
+--     space_again, space_found, space_end                   the first space
+--     number_part, number_low, number_high, number_past     a space ends a number; a byte or a value that makes it none
+--     number_again, number_end                              one more digit; the end of the line
+--     word_past                                             past the line there is no word
 -- Assumes nothing.
 use Rattle.std.specs.Prelude.{◌≡◌, List, [], ◌∷◌, ℕ, suc, ◌+◌, ◌-◌, ◌*◌, ◌≤◌, ◌<◌, length, drop}
 use Rattle.std.proofs.Math.Path.{refl}

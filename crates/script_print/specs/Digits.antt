@@ -1,9 +1,9 @@
 -- Digits put one by one, the last first, into bytes that end with them: what is left of the number, in front of what stands
 -- from place i on, gives the whole.
---     digits-start      no digit is put
---     digits-again      one more digit, and more are left
+--     digits_start      no digit is put
+--     digits_again      one more digit, and more are left
 --     digits_last       the number's first digit is put
---     digits-end        all places are used
+--     digits_end        all places are used
 -- Assumes nothing.
 use Rattle.std.specs.Prelude.{◌≡◌, refl, List, [], ◌∷◌, ℕ, suc, ◌+◌, ◌-◌, ◌/◌, ◌%◌, ◌≤◌, ◌<◌, length, take, drop, set}
 use Rattle.std.proofs.Common.{sym, ap, ◌∙◌, arith, length-drop, drop_of_length-le, length-set, take_all, drop-cons, get_or-set_same, drop-set-lt}

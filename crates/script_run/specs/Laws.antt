@@ -1,6 +1,6 @@
 -- Laws of a line that is run.
---     collect-obeys, plain-obeys     a command's equation as the whole line's
---     line-runs, printed-within      what a command printed, and then its outcome's text; within the lent bytes
+--     collect_obeys, plain_obeys     a command's equation as the whole line's
+--     line_runs, printed_within      what a command printed, and then its outcome's text; within the lent bytes
 -- Assumes nothing.
 use Rattle.std.specs.Prelude.{◌≡◌, refl, List, [], ◌∷◌, ◌++◌, ℕ, ◌≤◌, length}
 use Rattle.std.proofs.Common.{ap, arith}

@@ -1,11 +1,11 @@
 -- One prototype by the definition, step by step, and what the set of numbers seen tells. Assumes nothing.
 --     Looking                                   the invariant of the loop over nested prototypes
---     below-enough, proto-step                  any bound above a number gives the same
---     child-below, child-skipped                the two ways of a turn
---     constants-unsound, proto-looked           the two ways past the set
---     known-seen, known-child, known-none       what was seen is sound: of the number itself, of one below it, of none seen
+--     below_enough, proto_step                  any bound above a number gives the same
+--     child_below, child_skipped                the two ways of a turn
+--     constants_unsound, proto_looked           the two ways past the set
+--     known_seen, known_child, known_none       what was seen is sound: of the number itself, of one below it, of none seen
 --     added_none, added_more                    nothing new was seen; a nested one adds only sound ones
---     grown-same, grown-no, grown-all           where nothing new was seen; where the answer is no; where the number itself is sound
+--     grown_same, grown_no, grown_all           where nothing new was seen; where the answer is no; where the number itself is sound
 use mathlib.Core.Path.{◌≡◌, refl, sym, ◌∙◌}
 use mathlib.Core.Bool.{Bool, true, false, true≢false}
 use mathlib.Core.List.{List}
@@ -13,7 +13,7 @@ use mathlib.Core.Logic.{◌⊎◌, inl, inr, ⊎_elim}
 use Prim.Native.Nat.{ℕ, zero, suc, ◌-◌, ◌≤◌, ◌<◌}
 use native.Mathlib.Decide.{dec_lt, ℕ_discrete}
 use native.Mathlib.Omega.{arith}
-use lib.ListN.{length, set, replicate}
+use lib.ListN.{length, replicate}
 use lib.Seq.{get_or-set_other}
 use Rattle.base.specs.Ways.{lt_yes, lt_no, eq_yes, eq_no}
 use Rattle.base.specs.Words.{at, put}

@@ -26,12 +26,12 @@ use Rattle.mark_laws.specs.Changes.{Untouched, first, counters, tops, slot, past
 use Rattle.mark_laws.specs.Barriers.{forward_moves, Turned, back_turned}
 use Rattle.room_laws.specs.Tallies.{tally, Paid, Ample}
 use Rattle.room_laws.specs.Payments.{Whole}
-use Rattle.room_laws.specs.Cycles.{back_whole, forward_whole}
+use Rattle.room_laws.proofs.Cycles.{back_whole, forward_whole}
 use Rattle.room_laws.specs.Frames.{quiet_paid}
 use Rattle.room_laws.specs.Paints.{paint_quiet}
-use Rattle.atomic_laws.specs.Dues.{shade_colour}
+use Rattle.atomic_laws.proofs.Dues.{shade_colour}
 use Rattle.atomic_laws.specs.Spares.{whitens}
-use Rattle.atomic_laws.specs.Survives.{other_white_lem}
+use Rattle.atomic_laws.proofs.Survives.{other_white_lem}
 use Rattle.sweep_laws.specs.Places.{Rows, top_is}
 use Rattle.sweep_laws.specs.Repaints.{Tint, Repainted, repainted_fresh, repainted_keeps, marked_repainted, whitens_repainted}
 use Rattle.make_strings.specs.Making.{kept}

@@ -13,7 +13,7 @@ use Rattle.layout.specs.declared.Lay.{Lay}
 use Rattle.lists.specs.declared.Item.{Item}
 use Rattle.lists.specs.declared.Popped.{Popped}
 use Rattle.lists.specs.Lists.{RoomFor, damage, length_of, push, pop, cleared}
-use Rattle.lists.specs.Laws.{push_stored, push_full, stored_count, pop_none, pop_some, taken_count}
+use Rattle.lists.proofs.Laws.{push_stored, push_full, stored_count, pop_none, pop_some, taken_count}
 use Rattle.lists.specs.Laws as lists
 use Rattle.laid.specs.Laid.{Laid}
 use Rattle.mark.specs.Ops.{Ref, Work, gray, grayagain, weak}
@@ -23,7 +23,7 @@ use Rattle.mark_laws.specs.Colours.{shade_parts}
 use Rattle.mark_laws.specs.Moves.{Moves, still, raised, pushed, popped, emptied}
 use Rattle.mark_laws.specs.Changes.{moves_marked, colour_in, work_room}
 use Rattle.room_laws.specs.Frames.{OnlyList, mark_apart, push_only, pop_only, cleared_only}
-use Rattle.room_laws.specs.Queues.{queue_count}
+use Rattle.room_laws.proofs.Queues.{queue_count}
 use Rattle.state_laws.specs.State.{Lists, lists_same}
 
 -- One list.

@@ -24,7 +24,7 @@ use Rattle.laid.specs.Laid.{Laid}
 use Rattle.mark.specs.Words.{arena_of}
 use Rattle.mark_laws.specs.Apart.{Apart, Order, order}
 use Rattle.room_laws.specs.Tallies.{tally, Paid}
-use Rattle.room_laws.specs.Queues.{queue_count}
+use Rattle.room_laws.proofs.Queues.{queue_count}
 use Rattle.sweep_laws.specs.Turns.{Arenas}
 
 -- The sweep is at a slot of an arena: 0 to 5, and 6 past the last, at Finalize and at Pause. Phase and cursor say so. Every occupied

@@ -16,7 +16,7 @@ use Rattle.layout.specs.Places.{WHITE}
 use Rattle.lists.specs.declared.Item.{Item}
 use Rattle.lists.specs.declared.Item.TheVariants.{Table, Function, Userdata, Thread, Main, Unknown}
 use Rattle.lists.specs.Lists.{length_of, item_at, push, cleared}
-use Rattle.lists.specs.Laws.{push_long}
+use Rattle.lists.proofs.Laws.{push_long}
 use Rattle.laid.specs.Laid.{Laid, queue_room_lem}
 use Rattle.record.specs.Fields.{body_at}
 use Rattle.record.specs.Userdata.{set_ud_finalized}
@@ -34,7 +34,8 @@ use Rattle.mark_laws.specs.Marks.{marks_moves}
 use Rattle.mark_laws.specs.MainLinks.{main_links_lem}
 use Rattle.mark_laws.specs.Propagates.{table_whole, closure_whole, again_whole, all_moves}
 use Rattle.room_laws.specs.Tallies.{Ample}
-use Rattle.room_laws.specs.Queues.{Held, queue_count, queue_mark, placed_below, separated_held}
+use Rattle.room_laws.specs.Queues.{Held}
+use Rattle.room_laws.proofs.Queues.{queue_count, queue_mark, placed_below, separated_held}
 use Rattle.state_laws.specs.State.{Lists}
 use Rattle.state_laws.specs.Plains.{lt_both, eq_both, cond_both}
 use Rattle.state_laws.specs.Rooms.{push_room}

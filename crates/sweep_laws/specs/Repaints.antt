@@ -34,7 +34,7 @@ use Rattle.mark_laws.specs.Colours.{shade_parts, shade_most}
 use Rattle.mark_laws.specs.Moves.{still, emptied}
 use Rattle.mark_laws.specs.Changes.{counters, tops, slot, Up, Marked, moves_marked, colour_in}
 use Rattle.room_laws.specs.Tallies.{Ample}
-use Rattle.room_laws.specs.Queues.{queue_count}
+use Rattle.room_laws.proofs.Queues.{queue_count}
 use Rattle.room_laws.specs.Flips.{Low, low_none, cleared_low}
 use Rattle.reach.specs.Reached.{Root}
 use Rattle.reach.specs.Cycle.{AllWhite}
@@ -43,10 +43,11 @@ use Rattle.reach.specs.Exact.{None}
 use Rattle.atomic_laws.specs.Kept.{KeptRoot}
 use Rattle.atomic_laws.specs.Bodies.{Bodies}
 use Rattle.atomic_laws.specs.Separates.{Sorted}
-use Rattle.atomic_laws.specs.Dues.{due_parts, sorted}
-use Rattle.atomic_laws.specs.Finishes.{finished_ok}
-use Rattle.atomic_laws.specs.Spares.{whitens, Tinted, held, keep_all_lem}
-use Rattle.atomic_laws.specs.Survives.{other_white_lem}
+use Rattle.atomic_laws.proofs.Dues.{due_parts, sorted}
+use Rattle.atomic_laws.proofs.Finishes.{finished_ok}
+use Rattle.atomic_laws.specs.Spares.{whitens, Tinted, held}
+use Rattle.atomic_laws.proofs.Spares.{keep_all_lem}
+use Rattle.atomic_laws.proofs.Survives.{other_white_lem}
 use Rattle.sweep_laws.specs.Places.{Rows, top_is}
 
 -- A colour stays, or an occupied slot's colour becomes another one.

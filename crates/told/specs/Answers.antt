@@ -1,6 +1,6 @@
 -- What an exported call answers: a code, 0 or the number of a refusal, and words lent for the rest, which a refusal leaves as
 -- they were. Too few words are 1, and the call is not made. Assumes nothing.
---     served-told, lent-short, lent-told     each way by its fact
+--     served_told, lent_short, lent_told     each way by its fact
 use Rattle.std.specs.Prelude.{◌≡◌, List, ℕ, ◌<◌, ◌≤◌, length}
 use Rattle.std.proofs.Math.Path.{refl}
 use Rattle.base.specs.Ways.{if_lt, lt_yes, lt_no}

@@ -1,7 +1,7 @@
 -- What the numbers given to an exported call stand for. A value is given as its tag and two words, a handle as its index and
 -- generation, a table's handle that may be missing as a presence, 0 or 1, and the handle. A tag above 8 and a presence above 1
 -- stand for nothing: 1 and 8 as every call, then 4, before all that the call itself tests. Assumes nothing.
---     tagged-no, tagged-yes, optional-no, optional-yes     each way of the test by its fact
+--     tagged_no, tagged_yes, optional_no, optional_yes     each way of the test by its fact
 use Rattle.std.specs.Prelude.{◌≡◌, ℕ, ◌<◌, ◌≤◌}
 use Rattle.base.specs.Ways.{if_eq, if_lt, lt_yes, lt_no}
 use Rattle.base.specs.Heap.{Heap}

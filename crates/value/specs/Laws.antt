@@ -1,9 +1,9 @@
 -- What the definitions of values, handles and keys mean. Assumes nothing.
---     value-back, value-kept, value-long     a value written is read back; no other word changes; the words stay as many
---     value-three, value-apart               a value is its three words; one written apart from it leaves it
---     handle-back, handle-kept               the same for a handle that may be missing
---     key-number, key-other                  equal keys are equal numbers, or one and the same value
---     key-self, key-turned                   a key equals itself unless it is NaN; equality goes both ways
+--     value_back, value_kept, value_long     a value written is read back; no other word changes; the words stay as many
+--     value_three, value_apart               a value is its three words; one written apart from it leaves it
+--     handle_back, handle_kept               the same for a handle that may be missing
+--     key_number, key_other                  equal keys are equal numbers, or one and the same value
+--     key_self, key_turned                   a key equals itself unless it is NaN; equality goes both ways
 use Rattle.std.specs.Prelude.{◌≡◌, ℕ, ◌+◌, ◌^◌, ◌<◌, ◌≤◌, Bool, true, false, ◌≢◌, ◌⊎◌, List, length, ◌==◌, slice_set, refl}
 use Rattle.std.proofs.Common.{sym, ap, subst, ◌∙◌, inl, inr, mod-eq_of_lt, arith, length-set, get_or-set_same, get_or-set_other, set-set, eq-eqb, ne_eqb, eqb-true, lt-ltb, le-ltb}
 use Rattle.std.proofs.lemmas.Bool.{false≢true}

@@ -34,7 +34,7 @@ use Rattle.layout.specs.declared.Lay.{Lay}
 use Rattle.lists.specs.declared.Item.{Item}
 use Rattle.lists.specs.declared.Item.TheVariants as item
 use Rattle.lists.specs.Lists.{kind_of, index_of, generation_of, item_in, length_of, place, item_at}
-use Rattle.lists.specs.Laws.{item_three}
+use Rattle.lists.proofs.Laws.{item_three}
 use Rattle.record.specs.Fields.{body_at}
 use Rattle.record.specs.Strings.{string_length, text_of}
 use Rattle.record.specs.Tables.{table_meta, array_size, node_number, node_count, node_key, node_value}
@@ -51,9 +51,9 @@ use Rattle.link_laws.specs.Agrees.{Agree, table_same, str_same}
 use Rattle.link_laws.specs.Reads.{named_below}
 use Rattle.mark_laws.specs.Apart.{Apart, Order, order}
 use Rattle.mark_laws.specs.Colours.{shade_parts, named_shade}
-use Rattle.room_laws.specs.Walks.{run_along}
+use Rattle.room_laws.proofs.Walks.{run_along}
 use Rattle.atomic_laws.specs.Bodies.{Bodies, body_end}
-use Rattle.atomic_laws.specs.Survives.{low_shade}
+use Rattle.atomic_laws.proofs.Survives.{low_shade}
 use Rattle.sweep_laws.specs.Places.{Rows}
 use Rattle.weak_laws.specs.Cuts.{body, size, nodes, array_at, key_at, node_at, mode_at, ArrayDies, NodeDies, Same, Zero, Cut, cut_none, same_value, zero_value, cut_put, cut_zero}
 

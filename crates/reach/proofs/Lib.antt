@@ -1,0 +1,3 @@
+pub mod Oks
+pub mod Traversals
+pub mod Exact

@@ -1,0 +1,25 @@
+-- `thread_calls::thread_set_global` meets its contract: the callees' equations joined. Assumes nothing.
+use mathlib.Core.Path.{◌∙◌, sym}
+use Rattle.entered.specs.Entered.{entered}
+use Rattle.owners.specs.Owners.{on_thread}
+use Rattle.test1.specs.Calls.{call_refused, call_words}
+use Rattle.thread_calls.specs.ThreadCalls.{thread_set_global}
+use Rattle.thread_calls.proofs.thread_set_global.Goals as goal
+
+pub thread_body-requires : goal.thread_body-requires
+thread_body-requires c = record { laid = entered _ _ _ (sym c.in-Fits.is ∙ c.enter.ensures.0); l_in_bounds = (rw c.in-Fits.is at c.enter.ensures.1).words }
+
+pub set_global_at-requires : goal.set_global_at-requires
+set_global_at-requires c = record { laid = entered _ _ _ (sym c.in-Fits.is ∙ c.enter.ensures.0); l_in_bounds = (rw c.in-Fits.is at c.enter.ensures.1).words; p_in_bounds = rw c.in-At.is at c.thread_body.ensures.1 }
+
+pub returns-in-At : goal.returns-in-At
+unfolding thread_set_global on_thread
+returns-in-At c = call_words _ _ _ _ _ _ _ c.enter.ensures.0 c.in-Fits.is (rw (← c.thread_body.ensures.0, c.in-At.is) c.set_global_at.ensures)
+
+pub returns-in-Stale : goal.returns-in-Stale
+unfolding thread_set_global on_thread
+returns-in-Stale c = call_words _ _ _ _ _ _ _ c.enter.ensures.0 c.in-Fits.is (rw (← c.thread_body.ensures.0, c.in-Stale.is))
+
+pub returns-in-Refused : goal.returns-in-Refused
+unfolding thread_set_global
+returns-in-Refused c = call_refused _ _ _ _ _ c.enter.ensures.0 c.in-Refused.is
