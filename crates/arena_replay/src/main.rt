@@ -6,8 +6,8 @@
 ghost use Rattle.std.specs.Prelude.{◌≤◌, ◌<◌, length};
 
 use arena::{Arena, Freed, Named, Took};
-use libc::STDOUT_FILENO;
-use lines::{line_end, number_at};
+use lines::{line_end, number_at, read_full};
+use std::io;
 
 // 24 slots, each with a body of 2 words and 4 bytes: 147 words, 96 bytes.
 const PLACE: Arena = Arena {
@@ -19,57 +19,77 @@ const PLACE: Arena = Arena {
     width: 4,
 };
 
-fn say(text: &[u8]) {
-    io::write_all(STDOUT_FILENO, text);
+fn say(rt: &impl Print, text: &[u8]) -> io::Result<()> {
+    rt.write_all(text)
 }
 
-fn say_number(n: u64) {
-    io::print_decimal(STDOUT_FILENO, n);
+fn say_number(rt: &impl Print, n: u64) -> io::Result<()> {
+    rt.print(n)
 }
 
-fn take(w: &mut [u32; 147], colour: u32) {
+fn take(rt: &impl Print, w: &mut [u32; 147], colour: u32) -> io::Result<()> {
     match arena::take_slot(w, PLACE, colour, 2) {
         Took::Slot(i, g) => {
-            say(b"slot ");
-            say_number(i as u64);
-            say(b" ");
-            say_number(g as u64);
+            say(rt, b"slot ")?;
+            say_number(rt, i as u64)?;
+            say(rt, b" ")?;
+            say_number(rt, g as u64)
         }
-        Took::Full => say(b"refused 3"),
-        Took::Damaged => say(b"refused 8"),
+        Took::Full => say(rt, b"refused 3"),
+        Took::Damaged => say(rt, b"refused 8"),
     }
 }
 
-fn free(w: &mut [u32; 147], b: &mut [u8; 96], index: u32, generation: u32) {
+fn free(
+    rt: &impl Print,
+    w: &mut [u32; 147],
+    b: &mut [u8; 96],
+    index: u32,
+    generation: u32,
+) -> io::Result<()> {
     match arena::free(w, b, PLACE, index, generation) {
-        Freed::Done => say(b"done"),
-        Freed::Refused(_) => say(b"refused 2"),
+        Freed::Done => say(rt, b"done"),
+        Freed::Refused(_) => say(rt, b"refused 2"),
     }
 }
 
-fn paint(w: &mut [u32; 147], index: u32, generation: u32, colour: u32) {
+fn paint(
+    rt: &impl Print,
+    w: &mut [u32; 147],
+    index: u32,
+    generation: u32,
+    colour: u32,
+) -> io::Result<()> {
     match arena::name_of(w, PLACE, index, generation) {
         Named::At(i) => {
             arena::set_colour(w, PLACE, i, colour);
-            say(b"done");
+            say(rt, b"done")
         }
-        Named::Stale => say(b"refused 2"),
+        Named::Stale => say(rt, b"refused 2"),
     }
 }
 
-fn say_swept(freed: u64, next: u64, done: bool) {
-    say(b"freed ");
-    say_number(freed);
-    say(b" next ");
-    say_number(next);
+fn say_swept(rt: &impl Print, freed: u64, next: u64, done: bool) -> io::Result<()> {
+    say(rt, b"freed ")?;
+    say_number(rt, freed)?;
+    say(rt, b" next ")?;
+    say_number(rt, next)?;
     if done {
-        say(b" done");
+        say(rt, b" done")
     } else {
-        say(b" unfinished");
+        say(rt, b" unfinished")
     }
 }
 
-fn sweep(w: &mut [u32; 147], b: &mut [u8; 96], dead: u32, white: u32, start: u32, most: u32) {
+fn sweep(
+    rt: &impl Print,
+    w: &mut [u32; 147],
+    b: &mut [u8; 96],
+    dead: u32,
+    white: u32,
+    start: u32,
+    most: u32,
+) -> io::Result<()> {
     let s = arena::sweep_partial(
         w,
         b,
@@ -79,58 +99,67 @@ fn sweep(w: &mut [u32; 147], b: &mut [u8; 96], dead: u32, white: u32, start: u32
         base::wide(start),
         base::wide(most),
     );
-    say_swept(s.freed as u64, s.next as u64, s.done);
+    say_swept(rt, s.freed as u64, s.next as u64, s.done)
 }
 
 // A slot as `GENERATION:COLOUR`.
-fn say_slot(w: &[u32; 147], i: usize)
+fn say_slot(rt: &impl Print, w: &[u32; 147], i: usize) -> io::Result<()>
     requires { i < 24 }
 {
-    say(b" ");
-    say_number(arena::generation_of(w, PLACE, i) as u64);
-    say(b":");
-    say_number(arena::colour_of(w, PLACE, i) as u64);
+    say(rt, b" ")?;
+    say_number(rt, arena::generation_of(w, PLACE, i) as u64)?;
+    say(rt, b":")?;
+    say_number(rt, arena::colour_of(w, PLACE, i) as u64)
 }
 
-fn say_slots(w: &[u32; 147]) {
+fn say_slots(rt: &impl Print, w: &[u32; 147]) -> io::Result<()> {
     let end = arena::used_of(w, PLACE);
     let mut i: usize = 0;
     while i < end {
-        say_slot(w, i);
+        say_slot(rt, w, i)?;
         i += 1;
     }
+    Ok(())
 }
 
 // The chain from its head, at most 24 slots of it.
-fn say_chain(w: &[u32; 147]) {
+fn say_chain(rt: &impl Print, w: &[u32; 147]) -> io::Result<()> {
     let mut x = base::wide(arena::head_of(w, PLACE));
     let mut k: usize = 0;
     while k < 24 {
         if x == 0 {
-            return;
+            return Ok(());
         }
         if 24 < x {
-            return;
+            return Ok(());
         }
-        say(b" ");
-        say_number((x - 1) as u64);
+        say(rt, b" ")?;
+        say_number(rt, (x - 1) as u64)?;
         x = base::wide(arena::link_of(w, PLACE, x - 1));
         k += 1;
     }
+    Ok(())
 }
 
-fn say_state(w: &[u32; 147]) {
-    say(b", count ");
-    say_number(arena::count_of(w, PLACE) as u64);
-    say(b", chain");
-    say_chain(w);
-    say(b", slots");
-    say_slots(w);
-    say(b"\n");
+fn say_state(rt: &impl Print, w: &[u32; 147]) -> io::Result<()> {
+    say(rt, b", count ")?;
+    say_number(rt, arena::count_of(w, PLACE) as u64)?;
+    say(rt, b", chain")?;
+    say_chain(rt, w)?;
+    say(rt, b", slots")?;
+    say_slots(rt, w)?;
+    say(rt, b"\n")
 }
 
 // One line is done by its first letter.
-fn apply(w: &mut [u32; 147], b: &mut [u8; 96], letter: u8, s: &[u8], at: usize)
+fn apply(
+    rt: &impl Print,
+    w: &mut [u32; 147],
+    b: &mut [u8; 96],
+    letter: u8,
+    s: &[u8],
+    at: usize,
+) -> io::Result<()>
     requires { at ≤ length s.now }
 {
     let one = number_at(s, at);
@@ -138,27 +167,28 @@ fn apply(w: &mut [u32; 147], b: &mut [u8; 96], letter: u8, s: &[u8], at: usize)
     let three = number_at(s, two.next);
     let four = number_at(s, three.next);
     match letter {
-        b't' => take(w, one.value),
-        b'f' => free(w, b, one.value, two.value),
-        b'p' => paint(w, one.value, two.value, three.value),
-        b's' => sweep(w, b, one.value, two.value, three.value, four.value),
-        _ => say(b"not an operation"),
+        b't' => take(rt, w, one.value),
+        b'f' => free(rt, w, b, one.value, two.value),
+        b'p' => paint(rt, w, one.value, two.value, three.value),
+        b's' => sweep(rt, w, b, one.value, two.value, three.value, four.value),
+        _ => say(rt, b"not an operation"),
     }
 }
 
-fn main() {
-    let mut text = io::large_buffer();
-    let n = io::read_full(libc::STDIN_FILENO, &mut text);
+fn main(rt: HostRuntime) -> io::Result<()> {
+    let mut text = [0u8; 65536];
+    let n = read_full(&mut rt.reader(), &mut text)?;
     let mut w = [0u32; 147];
     let mut b = [0u8; 96];
-    replay(&mut w, &mut b, &text[..n]);
+    replay(&rt, &mut w, &mut b, &text[..n])
 }
 
-fn replay(w: &mut [u32; 147], b: &mut [u8; 96], s: &[u8]) {
+fn replay(rt: &impl Print, w: &mut [u32; 147], b: &mut [u8; 96], s: &[u8]) -> io::Result<()> {
     let mut at: usize = 0;
     while at < s.len() {
-        apply(w, b, s[at], s, at);
-        say_state(w);
+        apply(rt, w, b, s[at], s, at)?;
+        say_state(rt, w)?;
         at = line_end(s, at);
     }
+    Ok(())
 }

@@ -1,5 +1,5 @@
 -- Document 01, 'The atomic phase', in its order. Assumes nothing.
-use Rattle.std.specs.Prelude.{List, ℕ, ◌+◌, ◌-◌, ◌*◌}
+use Rattle.std.specs.Prelude.{List, ℕ, ◌-◌, ◌*◌}
 use Rattle.base.specs.Loop.{run}
 use Rattle.base.specs.Words.{at, put}
 use Rattle.layout.specs.declared.Lay.{Lay}

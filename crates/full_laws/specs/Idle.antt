@@ -33,7 +33,7 @@ use Rattle.reach.specs.Cycle.{AllWhite}
 use Rattle.atomic_laws.proofs.Dues.{shade_colour}
 use Rattle.atomic_laws.proofs.Survives.{other_white_lem}
 use Rattle.sweep_laws.specs.Places.{arena_at_lem}
-use Rattle.sweep_laws.specs.Turns.{strings_step, others_step}
+use Rattle.sweep_laws.proofs.Turns.{strings_step, others_step}
 use Rattle.sweep_laws.specs.Collections.{slot_at}
 use Rattle.full_laws.specs.Calm.{Calm, calm_put, calm_whites}
 

@@ -29,7 +29,8 @@ use Rattle.reach.specs.Cycle.{AllWhite}
 use Rattle.atomic_laws.specs.Kept.{Kept}
 use Rattle.atomic_laws.proofs.Dues.{shade_colour}
 use Rattle.sweep_laws.specs.Turns.{Arenas}
-use Rattle.sweep_laws.specs.Collections.{slot_at, ToFree, Collection, planned_freed}
+use Rattle.sweep_laws.specs.Collections.{slot_at, ToFree, Collection}
+use Rattle.sweep_laws.proofs.Collections.{planned_freed}
 use Rattle.manual.proofs.Agreement.{agreement}
 use Rattle.pace_laws.specs.Sames.{falling_same}
 use Rattle.heap_example.specs.Small.{sizes, words, bytes, all, is_one, fits, slots, header, colours, numbers, tops, four, roots_are, links_are, long, wide, gens}

@@ -7,14 +7,15 @@ ghost use Rattle.std.specs.Prelude.{◌+◌, ◌≤◌, ◌<◌, length};
 use layout::{Needs, Sizes};
 use newheap::Made;
 use print::{count, long, say, signed};
+use std::io;
 
 const ODD: u32 = 2779096485;
 
 // Word p between two texts.
-fn word(w: &[u32], before: &[u8], p: usize, after: &[u8])
+fn word(rt: &impl Print, w: &[u32], before: &[u8], p: usize, after: &[u8]) -> io::Result<()>
     requires { p < length w.now }
 {
-    count(before, base::get(w, p), after);
+    count(rt, before, base::get(w, p), after)
 }
 
 // Whether words p to e - 1 are all x.
@@ -45,192 +46,210 @@ fn alike_bytes(b: &[u8], p: usize, e: usize, x: u8) -> bool
 }
 
 // Words that are all 0 hold nothing.
-fn none(w: &[u32], name: &[u8], p: usize, e: usize)
+fn none(rt: &impl Print, w: &[u32], name: &[u8], p: usize, e: usize) -> io::Result<()>
     requires { e ≤ length w.now }
 {
-    say(name);
+    say(rt, name)?;
     if alike(w, p, e, 0) {
-        say(b"none\n");
+        say(rt, b"none\n")
     } else {
-        say(b"some\n");
+        say(rt, b"some\n")
     }
 }
 
 // A handle: index + 1 and generation.
-fn handle(w: &[u32], name: &[u8], p: usize)
+fn handle(rt: &impl Print, w: &[u32], name: &[u8], p: usize) -> io::Result<()>
     requires { p + 1 < length w.now }
 {
     let x = base::get(w, p);
-    say(name);
+    say(rt, name)?;
     if x == 0 {
-        say(b"none\n");
+        say(rt, b"none\n")
     } else {
-        count(b"", base::count_down(x), b"");
-        word(w, b", generation ", p + 1, b"\n");
+        count(rt, b"", base::count_down(x), b"")?;
+        word(rt, w, b", generation ", p + 1, b"\n")
     }
 }
 
-fn limit(w: &[u32])
+fn limit(rt: &impl Print, w: &[u32]) -> io::Result<()>
     requires { 91 ≤ length w.now }
 {
     let n = base::get64(w, layout::LIMIT);
     if n == 18446744073709551615 {
-        say(b"limit: none\n");
+        say(rt, b"limit: none\n")
     } else {
-        long(b"limit: ", n, b"\n");
+        long(rt, b"limit: ", n, b"\n")
     }
 }
 
-fn phase(n: u64) {
-    say(b"phase: ");
-    print::phase(n);
-    say(b"\n");
+fn phase(rt: &impl Print, n: u64) -> io::Result<()> {
+    say(rt, b"phase: ")?;
+    print::phase(rt, n)?;
+    say(rt, b"\n")
 }
 
-fn white(n: u32) {
+fn white(rt: &impl Print, n: u32) -> io::Result<()> {
     match n {
-        1 => say(b"current white: first\n"),
-        2 => say(b"current white: second\n"),
-        _ => say(b"current white: odd\n"),
+        1 => say(rt, b"current white: first\n"),
+        2 => say(rt, b"current white: second\n"),
+        _ => say(rt, b"current white: odd\n"),
     }
 }
 
 // An arena: words t to t + 2 are the head of its chain, the fresh index and the count; word k is its slots.
-fn arena(w: &[u32], name: &[u8], t: usize, k: usize)
+fn arena(rt: &impl Print, w: &[u32], name: &[u8], t: usize, k: usize) -> io::Result<()>
     requires { (t + 2 < length w.now) × (k < length w.now) }
 {
-    say(name);
-    word(w, b": ", t + 2, b"");
-    word(w, b" of ", k, b" slots occupied, ");
-    word(w, b"fresh index ", t + 1, b", ");
-    none(w, b"free chain: ", t, t + 1);
+    say(rt, name)?;
+    word(rt, w, b": ", t + 2, b"")?;
+    word(rt, w, b" of ", k, b" slots occupied, ")?;
+    word(rt, w, b"fresh index ", t + 1, b", ")?;
+    none(rt, w, b"free chain: ", t, t + 1)
 }
 
-fn main_thread(w: &[u32])
+fn main_thread(rt: &impl Print, w: &[u32]) -> io::Result<()>
     requires { 91 ≤ length w.now }
 {
-    word(w, b"prototypes: ", layout::PROTOTYPES, b"");
-    word(w, b" of ", 6, b"\n");
-    word(w, b"main stack: top ", layout::TOP, b"");
-    word(w, b" of ", 7, b"\n");
-    word(w, b"main open list: ", layout::OPENS, b"");
-    word(w, b" of ", 8, b"\n");
+    word(rt, w, b"prototypes: ", layout::PROTOTYPES, b"")?;
+    word(rt, w, b" of ", 6, b"\n")?;
+    word(rt, w, b"main stack: top ", layout::TOP, b"")?;
+    word(rt, w, b" of ", 7, b"\n")?;
+    word(rt, w, b"main open list: ", layout::OPENS, b"")?;
+    word(rt, w, b" of ", 8, b"\n")
 }
 
-fn frames(w: &[u32])
+fn frames(rt: &impl Print, w: &[u32]) -> io::Result<()>
     requires { 91 ≤ length w.now }
 {
-    word(w, b"frames: ci ", layout::CI, b"");
-    word(w, b" of ", 9, b"\n");
-    none(w, b"error and hook value: ", layout::ERROR, layout::GLOBAL);
+    word(rt, w, b"frames: ci ", layout::CI, b"")?;
+    word(rt, w, b" of ", 9, b"\n")?;
+    none(
+        rt,
+        w,
+        b"error and hook value: ",
+        layout::ERROR,
+        layout::GLOBAL,
+    )
 }
 
-fn roots(w: &[u32])
+fn roots(rt: &impl Print, w: &[u32]) -> io::Result<()>
     requires { 91 ≤ length w.now }
 {
-    handle(w, b"global: table ", layout::GLOBAL);
-    handle(w, b"registry: table ", layout::REGISTRY);
-    handle(w, b"name __mode: string ", layout::NAME_MODE);
-    handle(w, b"name __gc: string ", layout::NAME_GC);
-    none(w, b"type metatables: ", layout::METATABLES, layout::LIMIT);
-    limit(w);
-    word(w, b"pause: ", layout::PAUSE, b"\n");
-    word(w, b"stepmul: ", layout::STEPMUL, b"\n");
-    word(w, b"creation number: ", layout::CREATION, b"\n");
+    handle(rt, w, b"global: table ", layout::GLOBAL)?;
+    handle(rt, w, b"registry: table ", layout::REGISTRY)?;
+    handle(rt, w, b"name __mode: string ", layout::NAME_MODE)?;
+    handle(rt, w, b"name __gc: string ", layout::NAME_GC)?;
+    none(
+        rt,
+        w,
+        b"type metatables: ",
+        layout::METATABLES,
+        layout::LIMIT,
+    )?;
+    limit(rt, w)?;
+    word(rt, w, b"pause: ", layout::PAUSE, b"\n")?;
+    word(rt, w, b"stepmul: ", layout::STEPMUL, b"\n")?;
+    word(rt, w, b"creation number: ", layout::CREATION, b"\n")
 }
 
-fn state(w: &[u32])
+fn state(rt: &impl Print, w: &[u32]) -> io::Result<()>
     requires { 91 ≤ length w.now }
 {
-    none(w, b"damage mark: ", layout::DAMAGE, layout::PHASE);
-    phase(base::get(w, layout::PHASE) as u64);
-    white(base::get(w, layout::WHITE));
-    word(w, b"cursor: arena ", layout::CURSOR_ARENA, b"");
-    word(w, b", slot ", layout::CURSOR_SLOT, b"\n");
+    none(rt, w, b"damage mark: ", layout::DAMAGE, layout::PHASE)?;
+    phase(rt, base::get(w, layout::PHASE) as u64)?;
+    white(rt, base::get(w, layout::WHITE))?;
+    word(rt, w, b"cursor: arena ", layout::CURSOR_ARENA, b"")?;
+    word(rt, w, b", slot ", layout::CURSOR_SLOT, b"\n")
 }
 
-fn counters(w: &[u32])
+fn counters(rt: &impl Print, w: &[u32]) -> io::Result<()>
     requires { 91 ≤ length w.now }
 {
-    word(w, b"total: ", layout::TOTAL, b"\n");
-    word(w, b"peak: ", layout::PEAK, b"\n");
-    word(w, b"estimate: ", layout::ESTIMATE, b"\n");
-    long(b"threshold: ", base::get64(w, layout::THRESHOLD), b"\n");
-    signed(b"debt: ", base::get64(w, layout::DEBT), b"\n");
+    word(rt, w, b"total: ", layout::TOTAL, b"\n")?;
+    word(rt, w, b"peak: ", layout::PEAK, b"\n")?;
+    word(rt, w, b"estimate: ", layout::ESTIMATE, b"\n")?;
+    long(rt, b"threshold: ", base::get64(w, layout::THRESHOLD), b"\n")?;
+    signed(rt, b"debt: ", base::get64(w, layout::DEBT), b"\n")
 }
 
-fn lists(w: &[u32])
+fn lists(rt: &impl Print, w: &[u32]) -> io::Result<()>
     requires { 91 ≤ length w.now }
 {
-    none(w, b"finalizer out: ", layout::INTERRUPTED, layout::GRAY);
-    word(w, b"gray: ", layout::GRAY, b" items\n");
-    word(w, b"grayagain: ", layout::GRAYAGAIN, b" items\n");
-    word(w, b"weak: ", layout::WEAK, b" items\n");
-    word(w, b"queue: ", layout::QUEUE, b" items\n");
+    none(rt, w, b"finalizer out: ", layout::INTERRUPTED, layout::GRAY)?;
+    word(rt, w, b"gray: ", layout::GRAY, b" items\n")?;
+    word(rt, w, b"grayagain: ", layout::GRAYAGAIN, b" items\n")?;
+    word(rt, w, b"weak: ", layout::WEAK, b" items\n")?;
+    word(rt, w, b"queue: ", layout::QUEUE, b" items\n")
 }
 
-fn arenas(w: &[u32])
+fn arenas(rt: &impl Print, w: &[u32]) -> io::Result<()>
     requires { 91 ≤ length w.now }
 {
-    arena(w, b"strings", layout::STRINGS, 0);
-    arena(w, b"tables", layout::TABLES, 1);
-    arena(w, b"functions", layout::FUNCTIONS, 2);
-    arena(w, b"upvalues", layout::UPVALUES, 3);
-    arena(w, b"userdata", layout::USERDATA, 4);
-    arena(w, b"threads", layout::THREADS, 5);
+    arena(rt, w, b"strings", layout::STRINGS, 0)?;
+    arena(rt, w, b"tables", layout::TABLES, 1)?;
+    arena(rt, w, b"functions", layout::FUNCTIONS, 2)?;
+    arena(rt, w, b"upvalues", layout::UPVALUES, 3)?;
+    arena(rt, w, b"userdata", layout::USERDATA, 4)?;
+    arena(rt, w, b"threads", layout::THREADS, 5)
 }
 
-fn header(w: &[u32])
+fn header(rt: &impl Print, w: &[u32]) -> io::Result<()>
     requires { 91 ≤ length w.now }
 {
-    main_thread(w);
-    frames(w);
-    roots(w);
-    state(w);
-    counters(w);
-    lists(w);
-    arenas(w);
+    main_thread(rt, w)?;
+    frames(rt, w)?;
+    roots(rt, w)?;
+    state(rt, w)?;
+    counters(rt, w)?;
+    lists(rt, w)?;
+    arenas(rt, w)
 }
 
-fn kept(name: &[u8], same: bool) {
-    say(name);
+fn kept(rt: &impl Print, name: &[u8], same: bool) -> io::Result<()> {
+    say(rt, name)?;
     if same {
-        say(b"untouched\n");
+        say(rt, b"untouched\n")
     } else {
-        say(b"changed\n");
+        say(rt, b"changed\n")
     }
 }
 
-fn rest(w: &[u32], b: &[u8], s: Sizes) {
+fn rest(rt: &impl Print, w: &[u32], b: &[u8], s: Sizes) -> io::Result<()> {
     match layout::needed(s) {
         Needs::Room(n, m) => {
-            long(b"words from ", n as u64, b" on: ");
-            kept(b"", alike(w, n, w.len(), ODD));
-            long(b"bytes from ", m as u64, b" on: ");
-            kept(b"", alike_bytes(b, m, b.len(), 165));
+            long(rt, b"words from ", n as u64, b" on: ")?;
+            kept(rt, b"", alike(w, n, w.len(), ODD))?;
+            long(rt, b"bytes from ", m as u64, b" on: ")?;
+            kept(rt, b"", alike_bytes(b, m, b.len(), 165))
         }
-        Needs::Refused(_) => say(b"no heap\n"),
+        Needs::Refused(_) => say(rt, b"no heap\n"),
     }
 }
 
 // A heap is made and shown.
-fn show(name: &[u8], w: &mut [u32], b: &mut [u8], s: Sizes)
+fn show(rt: &impl Print, name: &[u8], w: &mut [u32], b: &mut [u8], s: Sizes) -> io::Result<()>
     requires { 91 ≤ length w.old }
 {
-    say(name);
+    say(rt, name)?;
     match newheap::make_heap(w, b, s) {
-        Made::Done => say(b": made\n"),
-        Made::Refused(n) => count(b": refused ", n, b"\n"),
+        Made::Done => say(rt, b": made\n")?,
+        Made::Refused(n) => count(rt, b": refused ", n, b"\n")?,
     }
-    header(w);
-    rest(w, b, s);
+    header(rt, w)?;
+    rest(rt, w, b, s)
 }
 
-fn main() {
+fn main(rt: HostRuntime) -> io::Result<()> {
     let mut w = [ODD; 10040];
     let mut b = [165u8; 1030];
-    show(b"the smallest heap", &mut w, &mut b, print::smallest());
+    show(&rt, b"the smallest heap", &mut w, &mut b, print::smallest())?;
     w = [ODD; 10040];
     b = [165u8; 1030];
-    show(b"heapscript's heap", &mut w, &mut b, print::heapscript());
+    show(
+        &rt,
+        b"heapscript's heap",
+        &mut w,
+        &mut b,
+        print::heapscript(),
+    )
 }

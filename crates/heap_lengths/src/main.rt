@@ -7,160 +7,161 @@ ghost use Rattle.std.specs.Prelude.{◌≤◌, ◌<◌, length};
 use layout::Sizes;
 use newheap::Made;
 use print::{count, long, say, smallest};
+use std::io;
 
-fn answer(m: Made) {
+fn answer(rt: &impl Print, m: Made) -> io::Result<()> {
     match m {
-        Made::Done => say(b"made\n"),
-        Made::Refused(n) => count(b"refused ", n, b"\n"),
+        Made::Done => say(rt, b"made\n"),
+        Made::Refused(n) => count(rt, b"refused ", n, b"\n"),
     }
 }
 
 // The smallest heap in the first n words, or the first n bytes.
-fn in_words(w: &mut [u32], b: &mut [u8], n: usize)
+fn in_words(rt: &impl Print, w: &mut [u32], b: &mut [u8], n: usize) -> io::Result<()>
     requires { n ≤ length w.old }
 {
     let part = &mut w[..n];
-    long(b"", n as u64, b" words: ");
-    answer(newheap::make_heap(part, b, smallest()));
+    long(rt, b"", n as u64, b" words: ")?;
+    answer(rt, newheap::make_heap(part, b, smallest()))
 }
 
-fn in_bytes(w: &mut [u32], b: &mut [u8], n: usize)
+fn in_bytes(rt: &impl Print, w: &mut [u32], b: &mut [u8], n: usize) -> io::Result<()>
     requires { n ≤ length b.old }
 {
     let part = &mut b[..n];
-    long(b"", n as u64, b" bytes: ");
-    answer(newheap::make_heap(w, part, smallest()));
+    long(rt, b"", n as u64, b" bytes: ")?;
+    answer(rt, newheap::make_heap(w, part, smallest()))
 }
 
 // It needs 1300 words and 128 bytes.
-fn lengths(w: &mut [u32; 1303], b: &mut [u8; 128]) {
-    in_words(w, b, 1297);
-    in_words(w, b, 1298);
-    in_words(w, b, 1299);
-    in_words(w, b, 1300);
-    in_words(w, b, 1301);
-    in_words(w, b, 1302);
-    in_words(w, b, 1303);
+fn lengths(rt: &impl Print, w: &mut [u32; 1303], b: &mut [u8; 128]) -> io::Result<()> {
+    in_words(rt, w, b, 1297)?;
+    in_words(rt, w, b, 1298)?;
+    in_words(rt, w, b, 1299)?;
+    in_words(rt, w, b, 1300)?;
+    in_words(rt, w, b, 1301)?;
+    in_words(rt, w, b, 1302)?;
+    in_words(rt, w, b, 1303)
 }
 
-fn byte_lengths(w: &mut [u32; 1300], b: &mut [u8; 131]) {
-    in_bytes(w, b, 125);
-    in_bytes(w, b, 126);
-    in_bytes(w, b, 127);
-    in_bytes(w, b, 128);
-    in_bytes(w, b, 129);
-    in_bytes(w, b, 130);
-    in_bytes(w, b, 131);
+fn byte_lengths(rt: &impl Print, w: &mut [u32; 1300], b: &mut [u8; 131]) -> io::Result<()> {
+    in_bytes(rt, w, b, 125)?;
+    in_bytes(rt, w, b, 126)?;
+    in_bytes(rt, w, b, 127)?;
+    in_bytes(rt, w, b, 128)?;
+    in_bytes(rt, w, b, 129)?;
+    in_bytes(rt, w, b, 130)?;
+    in_bytes(rt, w, b, 131)
 }
 
 // A heap of other sizes in buffers as long as the smallest needs: within the ranges the lengths are refused, outside the sizes.
-fn sized(name: &[u8], n: usize, s: Sizes) {
+fn sized(rt: &impl Print, name: &[u8], n: usize, s: Sizes) -> io::Result<()> {
     let mut w = [0u32; 1300];
     let mut b = [0u8; 128];
-    say(name);
-    long(b" ", n as u64, b": ");
-    answer(newheap::make_heap(&mut w, &mut b, s));
+    say(rt, name)?;
+    long(rt, b" ", n as u64, b": ")?;
+    answer(rt, newheap::make_heap(&mut w, &mut b, s))
 }
 
-fn strings(n: usize) {
+fn strings(rt: &impl Print, n: usize) -> io::Result<()> {
     let mut s = smallest();
     s.strings = n;
-    sized(b"strings", n, s);
+    sized(rt, b"strings", n, s)
 }
 
-fn tables(n: usize) {
+fn tables(rt: &impl Print, n: usize) -> io::Result<()> {
     let mut s = smallest();
     s.tables = n;
-    sized(b"tables", n, s);
+    sized(rt, b"tables", n, s)
 }
 
-fn functions(n: usize) {
+fn functions(rt: &impl Print, n: usize) -> io::Result<()> {
     let mut s = smallest();
     s.functions = n;
-    sized(b"functions", n, s);
+    sized(rt, b"functions", n, s)
 }
 
-fn upvalues(n: usize) {
+fn upvalues(rt: &impl Print, n: usize) -> io::Result<()> {
     let mut s = smallest();
     s.upvalues = n;
-    sized(b"upvalues", n, s);
+    sized(rt, b"upvalues", n, s)
 }
 
-fn userdata(n: usize) {
+fn userdata(rt: &impl Print, n: usize) -> io::Result<()> {
     let mut s = smallest();
     s.userdata = n;
-    sized(b"userdata", n, s);
+    sized(rt, b"userdata", n, s)
 }
 
-fn threads(n: usize) {
+fn threads(rt: &impl Print, n: usize) -> io::Result<()> {
     let mut s = smallest();
     s.threads = n;
-    sized(b"threads", n, s);
+    sized(rt, b"threads", n, s)
 }
 
-fn protos(n: usize) {
+fn protos(rt: &impl Print, n: usize) -> io::Result<()> {
     let mut s = smallest();
     s.protos = n;
-    sized(b"prototypes", n, s);
+    sized(rt, b"prototypes", n, s)
 }
 
-fn stack(n: usize) {
+fn stack(rt: &impl Print, n: usize) -> io::Result<()> {
     let mut s = smallest();
     s.stack = n;
-    sized(b"main stack", n, s);
+    sized(rt, b"main stack", n, s)
 }
 
-fn opens(n: usize) {
+fn opens(rt: &impl Print, n: usize) -> io::Result<()> {
     let mut s = smallest();
     s.opens = n;
-    sized(b"main open list", n, s);
+    sized(rt, b"main open list", n, s)
 }
 
-fn frames(n: usize) {
+fn frames(rt: &impl Print, n: usize) -> io::Result<()> {
     let mut s = smallest();
     s.frames = n;
-    sized(b"frames", n, s);
+    sized(rt, b"frames", n, s)
 }
 
-fn sizes() {
-    strings(1);
-    strings(2);
-    strings(4096);
-    strings(4097);
-    tables(1);
-    tables(2);
-    tables(4096);
-    tables(4097);
-    functions(4096);
-    functions(4097);
-    upvalues(4096);
-    upvalues(4097);
-    userdata(4096);
-    userdata(4097);
-    threads(4096);
-    threads(4097);
+fn sizes(rt: &impl Print) -> io::Result<()> {
+    strings(rt, 1)?;
+    strings(rt, 2)?;
+    strings(rt, 4096)?;
+    strings(rt, 4097)?;
+    tables(rt, 1)?;
+    tables(rt, 2)?;
+    tables(rt, 4096)?;
+    tables(rt, 4097)?;
+    functions(rt, 4096)?;
+    functions(rt, 4097)?;
+    upvalues(rt, 4096)?;
+    upvalues(rt, 4097)?;
+    userdata(rt, 4096)?;
+    userdata(rt, 4097)?;
+    threads(rt, 4096)?;
+    threads(rt, 4097)
 }
 
-fn main_sizes() {
-    protos(256);
-    protos(257);
-    stack(256);
-    stack(257);
-    opens(64);
-    opens(65);
-    frames(0);
-    frames(1);
-    frames(32);
-    frames(33);
+fn main_sizes(rt: &impl Print) -> io::Result<()> {
+    protos(rt, 256)?;
+    protos(rt, 257)?;
+    stack(rt, 256)?;
+    stack(rt, 257)?;
+    opens(rt, 64)?;
+    opens(rt, 65)?;
+    frames(rt, 0)?;
+    frames(rt, 1)?;
+    frames(rt, 32)?;
+    frames(rt, 33)
 }
 
-fn main() {
+fn main(rt: HostRuntime) -> io::Result<()> {
     let mut w = [0u32; 1303];
     let mut b = [0u8; 128];
-    lengths(&mut w, &mut b);
+    lengths(&rt, &mut w, &mut b)?;
     let mut few = [0u32; 1300];
     let mut more = [0u8; 131];
-    byte_lengths(&mut few, &mut more);
-    sizes();
-    main_sizes();
+    byte_lengths(&rt, &mut few, &mut more)?;
+    sizes(&rt)?;
+    main_sizes(&rt)
 }

@@ -1,5 +1,5 @@
 -- The arena of a kind within a planned layout: it has room in the words, and its records are as long as the kind says. Assumes nothing.
-use mathlib.Core.Path.{◌≡◌, refl}
+use mathlib.Core.Path.{◌≡◌}
 use mathlib.Core.List.{List as Words}
 use Prim.Native.Nat.{ℕ, ◌≤◌}
 use lib.ListN.{length}

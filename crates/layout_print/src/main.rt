@@ -4,182 +4,182 @@
 
 use arena::Arena;
 use layout::{Lay, List, Opened, Part, Sizes};
+use std::io;
 
-fn text(s: &[u8]) {
-    io::write_all(1, s);
+fn text(rt: &impl Print, s: &[u8]) -> io::Result<()> {
+    rt.write_all(s)
 }
 
-fn number(n: usize) {
-    io::print_decimal(1, n as u64);
+fn number(rt: &impl Print, n: usize) -> io::Result<()> {
+    rt.print(n)
 }
 
 // A place of the header.
-fn word(p: usize, name: &[u8]) {
-    text(b"  word ");
-    number(p);
-    text(b": ");
-    text(name);
-    text(b"\n");
+fn word(rt: &impl Print, p: usize, name: &[u8]) -> io::Result<()> {
+    text(rt, b"  word ")?;
+    number(rt, p)?;
+    text(rt, b": ")?;
+    text(rt, name)?;
+    text(rt, b"\n")
 }
 
-fn header() {
-    text(b"header, ");
-    number(layout::HEADER);
-    text(b" words\n");
-    header_first();
-    header_handles();
-    header_state();
-    header_counters();
-    header_lists();
-    header_arenas();
+fn header(rt: &impl Print) -> io::Result<()> {
+    text(rt, b"header, ")?;
+    number(rt, layout::HEADER)?;
+    text(rt, b" words\n")?;
+    header_first(rt)?;
+    header_handles(rt)?;
+    header_state(rt)?;
+    header_counters(rt)?;
+    header_lists(rt)?;
+    header_arenas(rt)
 }
 
-fn header_first() {
-    word(0, b"the ten sizes");
-    word(layout::PROTOTYPES, b"prototypes used");
-    word(layout::TOP, b"main top");
-    word(layout::OPENS, b"main open count");
-    word(layout::CI, b"ci");
-    word(layout::ERROR, b"main error value");
-    word(layout::HOOK, b"main hook value");
+fn header_first(rt: &impl Print) -> io::Result<()> {
+    word(rt, 0, b"the ten sizes")?;
+    word(rt, layout::PROTOTYPES, b"prototypes used")?;
+    word(rt, layout::TOP, b"main top")?;
+    word(rt, layout::OPENS, b"main open count")?;
+    word(rt, layout::CI, b"ci")?;
+    word(rt, layout::ERROR, b"main error value")?;
+    word(rt, layout::HOOK, b"main hook value")
 }
 
-fn header_handles() {
-    word(layout::GLOBAL, b"global");
-    word(layout::REGISTRY, b"registry");
-    word(layout::NAME_MODE, b"name __mode");
-    word(layout::NAME_GC, b"name __gc");
-    word(layout::METATABLES, b"nine type metatables");
-    word(layout::LIMIT, b"limit");
-    word(layout::PAUSE, b"pause");
-    word(layout::STEPMUL, b"stepmul");
-    word(layout::CREATION, b"creation number");
+fn header_handles(rt: &impl Print) -> io::Result<()> {
+    word(rt, layout::GLOBAL, b"global")?;
+    word(rt, layout::REGISTRY, b"registry")?;
+    word(rt, layout::NAME_MODE, b"name __mode")?;
+    word(rt, layout::NAME_GC, b"name __gc")?;
+    word(rt, layout::METATABLES, b"nine type metatables")?;
+    word(rt, layout::LIMIT, b"limit")?;
+    word(rt, layout::PAUSE, b"pause")?;
+    word(rt, layout::STEPMUL, b"stepmul")?;
+    word(rt, layout::CREATION, b"creation number")
 }
 
-fn header_state() {
-    word(layout::DAMAGE, b"damage mark");
-    word(layout::PHASE, b"phase");
-    word(layout::WHITE, b"current white");
-    word(layout::CURSOR_ARENA, b"cursor arena");
-    word(layout::CURSOR_SLOT, b"cursor slot");
+fn header_state(rt: &impl Print) -> io::Result<()> {
+    word(rt, layout::DAMAGE, b"damage mark")?;
+    word(rt, layout::PHASE, b"phase")?;
+    word(rt, layout::WHITE, b"current white")?;
+    word(rt, layout::CURSOR_ARENA, b"cursor arena")?;
+    word(rt, layout::CURSOR_SLOT, b"cursor slot")
 }
 
-fn header_counters() {
-    word(layout::TOTAL, b"total");
-    word(layout::PEAK, b"peak");
-    word(layout::ESTIMATE, b"estimate");
-    word(layout::THRESHOLD, b"threshold");
-    word(layout::DEBT, b"debt");
+fn header_counters(rt: &impl Print) -> io::Result<()> {
+    word(rt, layout::TOTAL, b"total")?;
+    word(rt, layout::PEAK, b"peak")?;
+    word(rt, layout::ESTIMATE, b"estimate")?;
+    word(rt, layout::THRESHOLD, b"threshold")?;
+    word(rt, layout::DEBT, b"debt")?;
     word(
+        rt,
         layout::INTERRUPTED,
         b"what the finalizer that is out interrupted",
-    );
-    word(layout::OUT, b"userdata that is out");
-    word(layout::REMAINING, b"remaining budget");
+    )?;
+    word(rt, layout::OUT, b"userdata that is out")?;
+    word(rt, layout::REMAINING, b"remaining budget")
 }
 
-fn header_lists() {
-    word(layout::GRAY, b"gray count");
-    word(layout::GRAYAGAIN, b"grayagain count");
-    word(layout::WEAK, b"weak count");
-    word(layout::QUEUE, b"queue count");
+fn header_lists(rt: &impl Print) -> io::Result<()> {
+    word(rt, layout::GRAY, b"gray count")?;
+    word(rt, layout::GRAYAGAIN, b"grayagain count")?;
+    word(rt, layout::WEAK, b"weak count")?;
+    word(rt, layout::QUEUE, b"queue count")
 }
 
-fn header_arenas() {
-    word(layout::STRINGS, b"strings: head, fresh, count");
-    word(layout::TABLES, b"tables: head, fresh, count");
-    word(layout::FUNCTIONS, b"functions: head, fresh, count");
-    word(layout::UPVALUES, b"upvalues: head, fresh, count");
-    word(layout::USERDATA, b"userdata: head, fresh, count");
-    word(layout::THREADS, b"threads: head, fresh, count");
+fn header_arenas(rt: &impl Print) -> io::Result<()> {
+    word(rt, layout::STRINGS, b"strings: head, fresh, count")?;
+    word(rt, layout::TABLES, b"tables: head, fresh, count")?;
+    word(rt, layout::FUNCTIONS, b"functions: head, fresh, count")?;
+    word(rt, layout::UPVALUES, b"upvalues: head, fresh, count")?;
+    word(rt, layout::USERDATA, b"userdata: head, fresh, count")?;
+    word(rt, layout::THREADS, b"threads: head, fresh, count")
 }
 
-fn at(before: &[u8], n: usize, after: &[u8]) {
-    text(before);
-    number(n);
-    text(after);
+fn at(rt: &impl Print, before: &[u8], n: usize, after: &[u8]) -> io::Result<()> {
+    text(rt, before)?;
+    number(rt, n)?;
+    text(rt, after)
 }
 
-fn arena_line(name: &[u8], a: Arena) {
-    text(b"  ");
-    text(name);
-    at(b": top ", a.top, b"");
-    at(b", table at ", a.base, b"");
-    at(b", ", a.slots, b" slots");
-    at(b", bodies at ", a.bodies, b"");
-    at(b", stride ", a.stride, b"");
-    at(b", width ", a.width, b"\n");
+fn arena_line(rt: &impl Print, name: &[u8], a: Arena) -> io::Result<()> {
+    text(rt, b"  ")?;
+    text(rt, name)?;
+    at(rt, b": top ", a.top, b"")?;
+    at(rt, b", table at ", a.base, b"")?;
+    at(rt, b", ", a.slots, b" slots")?;
+    at(rt, b", bodies at ", a.bodies, b"")?;
+    at(rt, b", stride ", a.stride, b"")?;
+    at(rt, b", width ", a.width, b"\n")
 }
 
-fn list_line(name: &[u8], b: List) {
-    text(b"  ");
-    text(name);
-    at(b": count at ", b.count, b"");
-    at(b", items at ", b.base, b"");
-    at(b", room ", b.room, b"");
-    at(b", stride ", layout::ITEM_WORDS, b"\n");
+fn list_line(rt: &impl Print, name: &[u8], b: List) -> io::Result<()> {
+    text(rt, b"  ")?;
+    text(rt, name)?;
+    at(rt, b": count at ", b.count, b"")?;
+    at(rt, b", items at ", b.base, b"")?;
+    at(rt, b", room ", b.room, b"")?;
+    at(rt, b", stride ", layout::ITEM_WORDS, b"\n")
 }
 
-fn part_line(name: &[u8], p: Part, words: usize) {
-    text(b"  ");
-    text(name);
-    at(b": at ", p.base, b"");
-    at(b", room ", p.room, b"");
-    at(b", stride ", words, b"\n");
+fn part_line(rt: &impl Print, name: &[u8], p: Part, words: usize) -> io::Result<()> {
+    text(rt, b"  ")?;
+    text(rt, name)?;
+    at(rt, b": at ", p.base, b"")?;
+    at(rt, b", room ", p.room, b"")?;
+    at(rt, b", stride ", words, b"\n")
 }
 
-fn arenas(l: Lay) {
+fn arenas(rt: &impl Print, l: Lay) -> io::Result<()> {
     let strings = l.strings;
     let tables = l.tables;
     let functions = l.functions;
     let upvalues = l.upvalues;
     let userdata = l.userdata;
     let threads = l.threads;
-    arena_line(b"strings", strings);
-    arena_line(b"tables", tables);
-    arena_line(b"functions", functions);
-    arena_line(b"upvalues", upvalues);
-    arena_line(b"userdata", userdata);
-    arena_line(b"threads", threads);
+    arena_line(rt, b"strings", strings)?;
+    arena_line(rt, b"tables", tables)?;
+    arena_line(rt, b"functions", functions)?;
+    arena_line(rt, b"upvalues", upvalues)?;
+    arena_line(rt, b"userdata", userdata)?;
+    arena_line(rt, b"threads", threads)
 }
 
-fn lists(l: Lay) {
+fn lists(rt: &impl Print, l: Lay) -> io::Result<()> {
     let gray = l.gray;
     let grayagain = l.grayagain;
     let weak = l.weak;
     let queue = l.queue;
-    list_line(b"gray", gray);
-    list_line(b"grayagain", grayagain);
-    list_line(b"weak", weak);
-    list_line(b"queue", queue);
+    list_line(rt, b"gray", gray)?;
+    list_line(rt, b"grayagain", grayagain)?;
+    list_line(rt, b"weak", weak)?;
+    list_line(rt, b"queue", queue)
 }
 
-fn parts(l: Lay) {
+fn parts(rt: &impl Print, l: Lay) -> io::Result<()> {
     let protos = l.protos;
     let stack = l.stack;
     let opens = l.opens;
     let frames = l.frames;
-    part_line(b"prototypes", protos, layout::PROTO_WORDS);
-    part_line(b"main stack", stack, layout::VALUE_WORDS);
-    part_line(b"main open list", opens, layout::HANDLE_WORDS);
-    part_line(b"frames", frames, 1);
+    part_line(rt, b"prototypes", protos, layout::PROTO_WORDS)?;
+    part_line(rt, b"main stack", stack, layout::VALUE_WORDS)?;
+    part_line(rt, b"main open list", opens, layout::HANDLE_WORDS)?;
+    part_line(rt, b"frames", frames, 1)
 }
 
-fn show(name: &[u8], s: Sizes) {
-    text(name);
+fn show(rt: &impl Print, name: &[u8], s: Sizes) -> io::Result<()> {
+    text(rt, name)?;
     match layout::plan(s) {
         Opened::Fits(z) => {
             let l = layout::lay_of(z);
-            at(b": ", l.words, b" words, ");
-            at(b"", l.bytes, b" bytes, ");
-            at(b"boundary at ", l.boundary, b"\n");
-            arenas(l);
-            lists(l);
-            parts(l);
+            at(rt, b": ", l.words, b" words, ")?;
+            at(rt, b"", l.bytes, b" bytes, ")?;
+            at(rt, b"boundary at ", l.boundary, b"\n")?;
+            arenas(rt, l)?;
+            lists(rt, l)?;
+            parts(rt, l)
         }
-        Opened::Refused(n) => {
-            at(b": refused ", n as usize, b"\n");
-        }
+        Opened::Refused(n) => at(rt, b": refused ", n as usize, b"\n"),
     }
 }
 
@@ -228,11 +228,11 @@ fn heapscript() -> Sizes {
     }
 }
 
-fn main() {
-    header();
-    show(b"the smallest heap", smallest());
-    show(b"heapscript's heap", heapscript());
-    show(b"the largest heap", alike(4096, 256, 64, 32));
-    show(b"one slot more", alike(4097, 256, 64, 32));
-    show(b"one string only", alike(1, 256, 64, 32));
+fn main(rt: HostRuntime) -> io::Result<()> {
+    header(&rt)?;
+    show(&rt, b"the smallest heap", smallest())?;
+    show(&rt, b"heapscript's heap", heapscript())?;
+    show(&rt, b"the largest heap", alike(4096, 256, 64, 32))?;
+    show(&rt, b"one slot more", alike(4097, 256, 64, 32))?;
+    show(&rt, b"one string only", alike(1, 256, 64, 32))
 }

@@ -1,7 +1,27 @@
-// What the programs that read lines of text share: the number at or past a place, and the place past a line's end.
+// What the programs that read lines of text share: the text itself, the number at or past a place, and the place past a
+// line's end.
 #![tactic(auto)]
 
-ghost use Rattle.std.specs.Prelude.{◌≡◌, ◌≤◌, ◌<◌, length};
+ghost use Rattle.std.specs.Prelude.{◌≡◌, ◌≤◌, ◌<◌, length, IfOk};
+
+use std::io;
+use std::io::Read;
+
+// Reads until `text` is full or the input ends, and returns how many bytes it put at the start of `text`. A read that
+// fails is returned; `text` then holds what was read before it.
+pub fn read_full(input: &mut impl Read, text: &mut [u8]) -> io::Result<usize>
+    ensures { IfOk result (λ n. n ≤ length text.new) }
+{
+    let mut done: usize = 0;
+    while done < text.len() {
+        let n = input.read(&mut text[done..])?;
+        if n == 0 {
+            return Ok(done);
+        }
+        done += n;
+    }
+    Ok(done)
+}
 
 // A number, and the place past it.
 #[derive(Clone, Copy)]

@@ -1,6 +1,4 @@
 pub mod News
 pub mod Sounds
 pub mod Pauses
-pub mod Opens
 pub mod Publics
-pub mod Starts

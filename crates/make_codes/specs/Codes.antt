@@ -1,7 +1,7 @@
 -- Lists of values given to the calls that make, and how what was made is told: 0 with two words, index and generation of the
 -- handle, or the number of a prototype and 0; or the refusal. Assumes nothing.
 --     listed_no, listed_yes     each way of the test by its fact
-use Rattle.std.specs.Prelude.{◌≡◌, refl, Bool, true, false, cond, List, ℕ, ◌*◌, ◌/◌, leb, length}
+use Rattle.std.specs.Prelude.{◌≡◌, Bool, true, false, cond, List, ℕ, ◌*◌, ◌/◌, leb, length}
 use Rattle.base.specs.Words.{at}
 use Rattle.base.specs.Heap.{Heap}
 use Rattle.making.specs.Turns.{each}

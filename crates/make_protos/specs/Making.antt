@@ -1,7 +1,7 @@
 -- Making a prototype: document 01, 'Sizes' and 'Refusal numbers'. Up to 16 constants, 3 words each, and 8 nested; each nested
 -- one is made, has no parent and is named once: else 4. A constant names an occupied slot of its kind: else 2. Every number
 -- used: 3. It takes the next number, which is above those of all nested ones. Assumes nothing.
-use Rattle.std.specs.Prelude.{◌≡◌, refl, Bool, true, false, cond, not, ◌&&◌, List, ℕ, ◌+◌, ◌*◌, ◌/◌, ◌%◌, ◌≤◌, ◌<◌, eqb, leb, length}
+use Rattle.std.specs.Prelude.{◌≡◌, refl, Bool, true, false, cond, not, ◌&&◌, List, ℕ, ◌+◌, ◌/◌, ◌%◌, ◌≤◌, ◌<◌, eqb, leb, length}
 use Rattle.std.proofs.Common.{sym, ◌∙◌, true≢false, arith, leb-true}
 use Rattle.std.proofs.Math.Decide.{dec_lt}
 use Rattle.base.specs.Ways.{if_lt, if_le, le_yes}

@@ -23,7 +23,6 @@ use Rattle.accounts.specs.Accounts.{handed}
 use Rattle.step.specs.declared.Single.{Single}
 use Rattle.step.specs.declared.Single.TheVariants.{Cost, Out}
 use Rattle.step.specs.Step.{single_step}
-use Rattle.pace.specs.declared.Half.{Half}
 use Rattle.pace.specs.declared.Half.TheVariants as half
 use Rattle.pace.specs.Pace.{turn, on_turn, budgeted_for, on_step, driven_for}
 

@@ -4,8 +4,6 @@ use Rattle.std.specs.Prelude.{List, ℕ, zero, suc, ◌+◌}
 use Rattle.base.specs.Ways.{if_le}
 use Rattle.base.specs.Words.{at, put}
 use Rattle.base.specs.Heap.{Heap, heap}
-use Rattle.value.specs.declared.UdRef.{UdRef}
-use Rattle.value.specs.declared.Value.{Value}
 use Rattle.layout.specs.declared.Lay.{Lay}
 use Rattle.layout.specs.Places.{STEPMUL, PHASE}
 use Rattle.mark.specs.Words.{ops}

@@ -39,8 +39,9 @@ use Rattle.step.specs.Step.{single_step}
 use Rattle.pace.specs.Pace.{steps_most, turned, turn, on_turn, budgeted_for, budgeted, automatic}
 use Rattle.sweep_laws.specs.Places.{Rows, rows}
 use Rattle.sweep_laws.specs.Turns.{Arenas}
-use Rattle.sweep_laws.specs.Mixtures.{Outcome, Going, paused, Past, based_none, step_keeps, going_phase, store_keeps, past_phase, past_store, past_freed}
-use Rattle.sweep_laws.specs.Finalizes.{past_step}
+use Rattle.sweep_laws.specs.Mixtures.{Outcome, Going, paused, Past}
+use Rattle.sweep_laws.proofs.Mixtures.{based_none, step_keeps, going_phase, store_keeps, past_phase, past_store, past_freed}
+use Rattle.sweep_laws.proofs.Finalizes.{past_step}
 
 -- A single step; a budgeted one, with the kind of call that it is for and the budget; one by the debt and stepmul.
 pub data Call : Type 0 where

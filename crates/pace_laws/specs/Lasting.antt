@@ -27,9 +27,12 @@ use Rattle.reach.specs.Cycle.{AllWhite, advanced}
 use Rattle.atomic_laws.specs.Bodies.{Bodies}
 use Rattle.cycle_laws.specs.Singles.{start_step, gray_step, atomic_step, started_phase, advanced_marked, advanced_less}
 use Rattle.sweep_laws.specs.Places.{Rows}
-use Rattle.sweep_laws.specs.Turns.{Arenas, Stage, stage_step, slots_of}
-use Rattle.sweep_laws.specs.Collections.{Ready, ready_arenas, ready_long, ready_low, ready_high, atomic_ready}
-use Rattle.sweep_laws.specs.Mixtures.{Based, Marking, Going, paused, marking, sweeping, Past, step_keeps, store_keeps}
+use Rattle.sweep_laws.specs.Turns.{Arenas, Stage, slots_of}
+use Rattle.sweep_laws.proofs.Turns.{stage_step}
+use Rattle.sweep_laws.specs.Collections.{Ready, ready_arenas}
+use Rattle.sweep_laws.proofs.Collections.{ready_long, ready_low, ready_high, atomic_ready}
+use Rattle.sweep_laws.specs.Mixtures.{Based, Marking, Going, paused, marking, sweeping, Past}
+use Rattle.sweep_laws.proofs.Mixtures.{step_keeps, store_keeps}
 
 -- the slots of the arenas from the j-th on
 abbrev pub slots_from : Lay → ℕ → ℕ

@@ -24,7 +24,7 @@ use Rattle.atomic_laws.proofs.Dues.{shade_colour}
 use Rattle.sweep_laws.specs.Turns.{Arenas}
 use Rattle.sweep_laws.specs.Collections.{slot_at, Freed}
 use Rattle.sweep_laws.specs.Mixtures.{Outcome}
-use Rattle.sweep_laws.specs.Outcomes.{listed}
+use Rattle.sweep_laws.proofs.Outcomes.{listed}
 use Rattle.pace_laws.specs.Budgets.{Call, calls, planned_calls}
 
 -- A falling list is known by what it holds.

@@ -1,42 +1,43 @@
 // What the programs that show a heap share: a text, a number between two texts, a phase's name, and the sizes of two heaps.
+// What prints takes the runtime, and returns a write's failure.
 #![tactic(auto)]
 
 use layout::Sizes;
-use libc::STDOUT_FILENO;
+use std::io;
 
-pub fn say(text: &[u8]) {
-    io::write_all(STDOUT_FILENO, text);
+pub fn say(rt: &impl Print, text: &[u8]) -> io::Result<()> {
+    rt.write_all(text)
 }
 
 // A number between two texts: 32 bits, or 64.
-pub fn count(before: &[u8], n: u32, after: &[u8]) {
-    long(before, n as u64, after);
+pub fn count(rt: &impl Print, before: &[u8], n: u32, after: &[u8]) -> io::Result<()> {
+    long(rt, before, n as u64, after)
 }
 
-pub fn long(before: &[u8], n: u64, after: &[u8]) {
-    say(before);
-    io::print_decimal(STDOUT_FILENO, n);
-    say(after);
+pub fn long(rt: &impl Print, before: &[u8], n: u64, after: &[u8]) -> io::Result<()> {
+    say(rt, before)?;
+    rt.print(n)?;
+    say(rt, after)
 }
 
 // A number that is stored plus 2^63, as the debt is.
-pub fn signed(before: &[u8], n: u64, after: &[u8]) {
-    say(before);
+pub fn signed(rt: &impl Print, before: &[u8], n: u64, after: &[u8]) -> io::Result<()> {
+    say(rt, before)?;
     if n < 9223372036854775808 {
-        long(b"-", 9223372036854775808 - n, after);
+        long(rt, b"-", 9223372036854775808 - n, after)
     } else {
-        long(b"", n - 9223372036854775808, after);
+        long(rt, b"", n - 9223372036854775808, after)
     }
 }
 
-pub fn phase(n: u64) {
+pub fn phase(rt: &impl Print, n: u64) -> io::Result<()> {
     match n {
-        0 => say(b"Pause"),
-        1 => say(b"Propagate"),
-        2 => say(b"SweepString"),
-        3 => say(b"Sweep"),
-        4 => say(b"Finalize"),
-        _ => say(b"odd"),
+        0 => say(rt, b"Pause"),
+        1 => say(rt, b"Propagate"),
+        2 => say(rt, b"SweepString"),
+        3 => say(rt, b"Sweep"),
+        4 => say(rt, b"Finalize"),
+        _ => say(rt, b"odd"),
     }
 }
 

@@ -1,56 +1,57 @@
 // What the programs that make steps share: a value, an item of a list and an answer, in words. A handle is its kind, index
-// and generation.
+// and generation. What prints takes the runtime, and returns a write's failure.
 #![tactic(auto)]
 
 use accounts::Answer;
 use lists::Item;
 use print::{count, long, say};
+use std::io;
 use value::Value;
 
-fn handle(kind: &[u8], index: u32, generation: u32) {
-    count(kind, index, b".");
-    count(b"", generation, b"");
+fn handle(rt: &impl Print, kind: &[u8], index: u32, generation: u32) -> io::Result<()> {
+    count(rt, kind, index, b".")?;
+    count(rt, b"", generation, b"")
 }
 
-pub fn value(v: Value) {
+pub fn value(rt: &impl Print, v: Value) -> io::Result<()> {
     match v {
-        Value::Nil => say(b"nil"),
-        Value::Boolean(_) => say(b"a boolean"),
-        Value::Light(_) => say(b"a light userdata"),
-        Value::Number(_) => say(b"a number"),
-        Value::Str(r) => handle(b"string ", r.0, r.1),
-        Value::Table(r) => handle(b"table ", r.0, r.1),
-        Value::Function(r) => handle(b"function ", r.0, r.1),
-        Value::Userdata(r) => handle(b"userdata ", r.0, r.1),
-        Value::Thread(r) => handle(b"thread ", r.0, r.1),
+        Value::Nil => say(rt, b"nil"),
+        Value::Boolean(_) => say(rt, b"a boolean"),
+        Value::Light(_) => say(rt, b"a light userdata"),
+        Value::Number(_) => say(rt, b"a number"),
+        Value::Str(r) => handle(rt, b"string ", r.0, r.1),
+        Value::Table(r) => handle(rt, b"table ", r.0, r.1),
+        Value::Function(r) => handle(rt, b"function ", r.0, r.1),
+        Value::Userdata(r) => handle(rt, b"userdata ", r.0, r.1),
+        Value::Thread(r) => handle(rt, b"thread ", r.0, r.1),
     }
 }
 
-pub fn item(x: Item) {
+pub fn item(rt: &impl Print, x: Item) -> io::Result<()> {
     match x {
-        Item::Table(r) => value(Value::Table(r)),
-        Item::Function(r) => value(Value::Function(r)),
-        Item::Userdata(r) => value(Value::Userdata(r)),
-        Item::Thread(r) => value(Value::Thread(r)),
-        Item::Main => say(b"main"),
-        Item::Unknown => say(b"unknown"),
+        Item::Table(r) => value(rt, Value::Table(r)),
+        Item::Function(r) => value(rt, Value::Function(r)),
+        Item::Userdata(r) => value(rt, Value::Userdata(r)),
+        Item::Thread(r) => value(rt, Value::Thread(r)),
+        Item::Main => say(rt, b"main"),
+        Item::Unknown => say(rt, b"unknown"),
     }
 }
 
-pub fn answer(a: Answer) {
+pub fn answer(rt: &impl Print, a: Answer) -> io::Result<()> {
     match a {
-        Answer::Stepped(c) => long(b"a step of cost ", c as u64, b"\n"),
-        Answer::Unfinished => say(b"unfinished\n"),
-        Answer::Ended => say(b"the cycle ended\n"),
-        Answer::Passed => say(b"passed\n"),
+        Answer::Stepped(c) => long(rt, b"a step of cost ", c as u64, b"\n"),
+        Answer::Unfinished => say(rt, b"unfinished\n"),
+        Answer::Ended => say(rt, b"the cycle ended\n"),
+        Answer::Passed => say(rt, b"passed\n"),
         Answer::Handed(r, v) => {
-            value(Value::Userdata(r));
-            say(b" is handed out with ");
-            value(v);
-            say(b"\n");
+            value(rt, Value::Userdata(r))?;
+            say(rt, b" is handed out with ")?;
+            value(rt, v)?;
+            say(rt, b"\n")
         }
-        Answer::Busy => say(b"busy\n"),
-        Answer::Failed => say(b"failed\n"),
-        Answer::Refused(n) => count(b"refused ", n, b"\n"),
+        Answer::Busy => say(rt, b"busy\n"),
+        Answer::Failed => say(rt, b"failed\n"),
+        Answer::Refused(n) => count(rt, b"refused ", n, b"\n"),
     }
 }

@@ -17,6 +17,7 @@ use newheap::Made;
 use part_reads::Slots;
 use print::{count, say};
 use reads::{Kind, Read};
+use std::io;
 use value::{FuncRef, StrRef, Value};
 
 const SIZES: Sizes = Sizes {
@@ -62,7 +63,7 @@ fn nest_all(w: &mut [u32; 16472], l: Sizes)
 }
 
 // The lowest has one constant, string 2, which nothing else has.
-fn put_constant(w: &mut [u32; 16472], l: Sizes)
+fn put_constant(rt: &impl Print, w: &mut [u32; 16472], l: Sizes) -> io::Result<()>
     requires laid { Laid (lay_of l) }
     requires l_bound { (lay_of l).words ≤ 16472 }
 {
@@ -72,8 +73,9 @@ fn put_constant(w: &mut [u32; 16472], l: Sizes)
                 set_proto_counts(w, l, 0, 1, 0);
                 set_proto_constant(w, l, 0, 0, Value::Str(StrRef(2, 0)));
             }
+            Ok(())
         }
-        _ => say(b"no slot for the string\n"),
+        _ => say(rt, b"no slot for the string\n"),
     }
 }
 
@@ -91,13 +93,16 @@ fn push_closure(w: &mut [u32; 16472], l: Sizes, i: usize)
     }
 }
 
-fn make_closure(w: &mut [u32; 16472], l: Sizes)
+fn make_closure(rt: &impl Print, w: &mut [u32; 16472], l: Sizes) -> io::Result<()>
     requires laid { Laid (lay_of l) }
     requires l_bound { (lay_of l).words ≤ 16472 }
 {
     match arena::take_slot(w, layout::functions_of(l), 1, 5) {
-        Took::Slot(i, _) => push_closure(w, l, i),
-        _ => say(b"no slot for the closure\n"),
+        Took::Slot(i, _) => {
+            push_closure(w, l, i);
+            Ok(())
+        }
+        _ => say(rt, b"no slot for the closure\n"),
     }
 }
 
@@ -108,65 +113,64 @@ fn is_black(w: &[u32], b: &[u8], k: Kind, i: u32) -> bool {
     }
 }
 
-fn step(w: &mut [u32], b: &mut [u8], n: u32) {
-    count(b"step ", n, b": ");
-    print_answer::answer(steps::gc_singlestep(w, b));
+fn step(rt: &impl Print, w: &mut [u32], b: &mut [u8], n: u32) -> io::Result<()> {
+    count(rt, b"step ", n, b": ")?;
+    print_answer::answer(rt, steps::gc_singlestep(w, b))
 }
 
-fn traversed(w: &[u32], b: &[u8], n: u32) {
+fn traversed(rt: &impl Print, w: &[u32], b: &[u8], n: u32) -> io::Result<()> {
     count(
+        rt,
         b"the closure of prototype 255 was traversed in ",
         n,
         b" steps\n",
-    );
+    )?;
     if is_black(w, b, Kind::Strings, 2) {
-        say(b"the constant of prototype 0 is black\n");
+        say(rt, b"the constant of prototype 0 is black\n")
     } else {
-        say(b"the constant of prototype 0 was not reached\n");
+        say(rt, b"the constant of prototype 0 was not reached\n")
     }
 }
 
-fn walk(w: &mut [u32; 16472], b: &mut [u8; 192]) {
+fn walk(rt: &impl Print, w: &mut [u32; 16472], b: &mut [u8; 192]) -> io::Result<()> {
     let mut n: u32 = 1;
     while n < 100 {
-        step(w, b, n);
+        step(rt, w, b, n)?;
         if is_black(w, b, Kind::Functions, 0) {
-            traversed(w, b, n);
-            return;
+            return traversed(rt, w, b, n);
         }
         n += 1;
     }
-    say(b"not traversed in 99 steps\n");
+    say(rt, b"not traversed in 99 steps\n")
 }
 
-fn walk_in(w: &mut [u32; 16472], b: &mut [u8; 192], l: Sizes)
+fn walk_in(rt: &impl Print, w: &mut [u32; 16472], b: &mut [u8; 192], l: Sizes) -> io::Result<()>
     requires laid { Laid (lay_of l) }
     requires l_bound { (lay_of l).words ≤ 16472 }
 {
     nest_all(w, l);
-    put_constant(w, l);
-    make_closure(w, l);
-    walk(w, b);
+    put_constant(rt, w, l)?;
+    make_closure(rt, w, l)?;
+    walk(rt, w, b)
 }
 
-fn show(w: &mut [u32; 16472], b: &mut [u8; 192]) {
+fn show(rt: &impl Print, w: &mut [u32; 16472], b: &mut [u8; 192]) -> io::Result<()> {
     match layout::plan(SIZES) {
         Opened::Fits(l) => {
             if 16472 < layout::words_of(l) {
-                say(b"too few words\n");
-                return;
+                return say(rt, b"too few words\n");
             }
-            walk_in(w, b, l);
+            walk_in(rt, w, b, l)
         }
-        Opened::Refused(n) => count(b"refused ", n, b"\n"),
+        Opened::Refused(n) => count(rt, b"refused ", n, b"\n"),
     }
 }
 
-fn main() {
+fn main(rt: HostRuntime) -> io::Result<()> {
     let mut w = [0u32; 16472];
     let mut b = [0u8; 192];
     match newheap::make_heap(&mut w, &mut b, SIZES) {
-        Made::Done => show(&mut w, &mut b),
-        Made::Refused(n) => count(b"refused ", n, b"\n"),
+        Made::Done => show(&rt, &mut w, &mut b),
+        Made::Refused(n) => count(&rt, b"refused ", n, b"\n"),
     }
 }

@@ -1,5 +1,5 @@
 -- Laws of the commands that make: a call that makes, and a table of made objects with no room. Assumes nothing.
-use Rattle.std.specs.Prelude.{◌≡◌, refl, true, false, List, ℕ}
+use Rattle.std.specs.Prelude.{◌≡◌, true, false, List, ℕ}
 use Rattle.base.specs.Heap.{Heap}
 use Rattle.making.specs.declared.Made.{Made}
 use Rattle.script_made.specs.Objects.{is_full}

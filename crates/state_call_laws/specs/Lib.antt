@@ -3,4 +3,3 @@ pub mod Mains
 pub mod Threads
 pub mod Objects
 pub mod Protos
-pub mod Makes

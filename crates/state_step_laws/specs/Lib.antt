@@ -5,4 +5,3 @@ pub mod Marks
 pub mod Sweeps
 pub mod Singles
 pub mod Paces
-pub mod Steps

@@ -1,352 +1,43 @@
--- Budgeted steps and full collections keep the state, and a full collection's first half comes to its end. Assumes nothing.
---     free-plain, handed-state, taken_free     words of pacing; a hand-out in Finalize, and its end
---     Turned, turn-state, budgeted-state     turns of a budgeted step
---     Driven, drive-state      steps until a phase, as far as they come
---     Through, drive-final, drive-sweep     from the sweep or Finalize so many steps as are made come to Pause, or hand a finalizer out
---     first-state, second-state     both halves of a full collection
-use Rattle.std.specs.Prelude.{◌≡◌, refl, ◌⊎◌, length}
-use Rattle.std.proofs.Common.{sym, subst, ap, ◌∙◌, inl, inr, ⊎_elim, arith, length-set, get_or-set_same, get_or-set_other}
-use mathlib.Core.List.{List}
-use Prim.Native.Nat.{ℕ, zero, suc, min, ◌+◌, ◌-◌, ◌*◌, ◌≤◌, ◌<◌}
-use Rattle.std.proofs.Math.Decide.{ℕ_discrete, dec_lt}
-use Rattle.base.specs.Words.{at, put, bounded}
-use Rattle.base.specs.Heap.{Heap, heap}
-use Rattle.arena.specs.Slots.{count}
-use Rattle.arena_laws.specs.Words.{le_is}
-use Rattle.arena_laws.specs.Keeps.{occupied_most}
-use Rattle.value.specs.declared.UdRef.{UdRef}
+-- What budgeted steps and full collections come to. That they keep the state is proved in proofs/Paces.antt.
+--     Turned            turns of a budgeted step
+--     Driven            steps until a phase, as far as they come
+--     Through           so many steps as are made come to Pause, or hand a finalizer out
+use Prim.Native.Nat.{ℕ, zero, suc, ◌+◌, ◌≤◌}
+use Rattle.base.specs.Words.{at}
+use Rattle.base.specs.Heap.{Heap}
 use Rattle.layout.specs.declared.Lay.{Lay}
-use Rattle.layout.specs.Places.{PHASE, TOTAL, THRESHOLD, DEBT, INTERRUPTED, OUT, REMAINING}
-use Rattle.lists.specs.Lists.{length_of}
+use Rattle.layout.specs.Places.{PHASE}
 use Rattle.laid.specs.Laid.{Laid}
 use Rattle.mark.specs.Words.{arena_of}
-use Rattle.accounts.specs.declared.Answer.{Answer}
-use Rattle.accounts.specs.declared.Answer.TheVariants.{Unfinished, Ended}
 use Rattle.accounts.specs.declared.Turn.{Turn}
 use Rattle.accounts.specs.declared.Turn.TheVariants.{Left, Over}
-use Rattle.accounts.specs.Accounts.{memory_of, update_threshold, step_ends, handed, taken_back, after_cost, grown}
-use Rattle.step.specs.declared.Single.{Single}
-use Rattle.step.specs.declared.Single.TheVariants.{Cost, Out}
-use Rattle.step.specs.Step.{start_cycle, single_step}
 use Rattle.pace.specs.declared.Half.{Half}
 use Rattle.pace.specs.declared.Half.TheVariants as half
-use Rattle.pace.specs.Pace.{steps_most, turned, turn, on_turn, budgeted_for, budgeted, on_step, driven_for, driven, on_half, over, full_second, full_first, automatic}
-use Rattle.mark_laws.specs.Apart.{Apart, Order, order}
+use Rattle.mark_laws.specs.Apart.{Apart}
 use Rattle.room_laws.specs.Tallies.{Ample}
-use Rattle.room_laws.proofs.Queues.{queue_count}
 use Rattle.atomic_laws.specs.Bodies.{Bodies}
-use Rattle.sweep_laws.specs.Places.{Rows, six_room, top_is}
-use Rattle.sweep_laws.specs.Turns.{Progress}
-use Rattle.sweep_laws.specs.Finalizes.{finalize_step_lem}
-use Rattle.state_laws.specs.State.{Swept, State}
-use Rattle.state_laws.specs.Plains.{le_both, eq_both, pacing, handed as handing, marks, Plainly, plainly_none, plainly_two, plainly_handle, plain_state, out_state}
-use Rattle.state_laws.specs.Plains as plains
-use Rattle.state_step_laws.specs.Marks.{Free, start_free}
-use Rattle.state_step_laws.specs.Sweeps.{Sweeping, sweep_free}
-use Rattle.state_step_laws.specs.Singles.{swept_on, swept_past, Final, final_free, After, single_after}
+use Rattle.sweep_laws.specs.Places.{Rows}
+use Rattle.state_laws.specs.State.{State}
+use Rattle.state_step_laws.specs.Marks.{Free}
 
 -- The slots of the arenas before the j-th, and one more for each.
 unfoldable pub before : Lay → ℕ → ℕ
 before l zero = 0
 before l (suc j) = before l j + (arena_of l j).slots + 1
 
-before_next : (l : Lay) (j : ℕ) → before l (j + 1) ≡ before l j + (arena_of l j).slots + 1
-unfolding before
-before_next l j = let e : j + 1 ≡ suc j = omega arith in ap (before l) e
-
-before_rise : (l : Lay) (j d : ℕ) → j ≤ d → before l j ≤ before l d
-unfolding before
-before_rise l j zero h = let e : j ≡ 0 = omega (arith, h) in subst (λ (n : ℕ). before l j ≤ before l n) e (omega arith)
-before_rise l j (suc d) h = go (dec_lt d j) (λ k. before_rise l j d k)
-  where
-    more : (x y z : ℕ) → x ≤ y → x ≤ y + z + 1
-    more x y z f = omega (arith, f)
-
-    go : Dec (d < j) → (j ≤ d → before l j ≤ before l d) → before l j ≤ before l d + (arena_of l d).slots + 1
-    go (yes k) rest = let e : j ≡ suc d = omega (arith, h, k) in subst (λ (n : ℕ). before l n ≤ before l d + (arena_of l d).slots + 1) (sym e) (omega arith)
-    go (no k) rest = more (before l j) (before l d) (arena_of l d).slots (rest (omega (arith, k)))
-
-before_last : (l : Lay) (j n : ℕ) → j ≤ 5 → n ≤ (arena_of l j).slots → before l j + n + 1 ≤ before l 6
-before_last l j n h f = sums (before l j) n (arena_of l j).slots (before l (j + 1)) (before l 6) f (before_next l j) (before_rise l (j + 1) 6 (omega (arith, h)))
-  where
-    sums : (x n s y z : ℕ) → n ≤ s → y ≡ x + s + 1 → y ≤ z → x + n + 1 ≤ z
-    sums x n s y z f e g = omega (arith, f, e, g)
-
-before_all : (l : Lay) → before l 6 ≡ l.strings.slots + l.tables.slots + l.functions.slots + l.upvalues.slots + l.userdata.slots + l.threads.slots + 6
-unfolding before
-before_all l = omega arith
-
 module _ (l : Lay) (ok : Laid l) (a : Apart l) (r : Rows l) where
-  abbrev o : Order l
-  o = order l ok a
-
-  -- Plain words change.
-  pub free_plain : {w u b : List ℕ} → Plainly l w u → Free l (heap w b) → Free l (heap u b)
-  free_plain p c = record { state = plain_state l ok a r p c.state; none = p.aside INTERRUPTED (plains.out refl) ∙ c.none }
-
-  -- The ends of a step and of a cycle, and a debt that grows, write words of pacing.
-  pub ends_plain : (w : List ℕ) → Plainly l w (step_ends w)
-  unfolding step_ends
-  ends_plain w =
-      plainly_two l ok a THRESHOLD _ _ (pacing (omega arith) (omega arith)) (pacing (omega arith) (omega arith))
-      (plainly_two l ok a DEBT _ _ (pacing (omega arith) (omega arith)) (pacing (omega arith) (omega arith)) plainly_none)
-
-  -- the total that is counted anew is the total
-  memory_is : {w b : List ℕ} → State l (heap w b) → memory_of w ≡ at w TOTAL
-  memory_is {w} {b} s =
-      let c : (k : ℕ) (g : k ≤ 5) → bounded (at w (73 + 3 * k + 2)) 4096 ≡ count (arena_of l k) w =
-      λ k g. le_is (at w (73 + 3 * k + 2)) 4096 (omega (arith, here k g, (s.arenas k g).counts, occupied_most (arena_of l k) w, (six_room l ok a r w s.long k g).slots)) ∙ here k g in
-      omega (arith, s.sum.total, c 0 (omega arith), c 1 (omega arith), c 2 (omega arith), c 3 (omega arith), c 4 (omega arith), c 5 (omega arith))
-    where
-      here : (k : ℕ) → k ≤ 5 → at w (73 + 3 * k + 2) ≡ count (arena_of l k) w
-      here k g = ap (λ (x : ℕ). at w (x + 2)) (sym (top_is l ok a r k g))
-
-  -- a word stored as it stands
-  stored_same : (p n : ℕ) (w : List ℕ) → p < length w → n ≡ at w p → (x : ℕ) → at (put p n w) x ≡ at w x
-  stored_same p n w h e x = go (ℕ_discrete x p)
-    where
-      go : Dec (x ≡ p) → at (put p n w) x ≡ at w x
-      go (yes z) = ap (at (put p n w)) z ∙ get_or-set_same w p n 0 h ∙ e ∙ ap (at w) (sym z)
-      go (no d) = get_or-set_other w p x n 0 d
-
-  pub cycle_plain : {w b : List ℕ} → State l (heap w b) → Plainly l w (update_threshold w)
-  unfolding update_threshold
-  cycle_plain {w} {b} s =
-      plainly_two l ok a THRESHOLD _ _ (pacing (omega arith) (omega arith)) (pacing (omega arith) (omega arith)) counted
-    where
-      same : (x : ℕ) → at (put TOTAL (memory_of w) w) x ≡ at w x
-      same x = stored_same TOTAL (memory_of w) w (omega (arith, s.long, o.words, o.header, a)) (memory_is s) x
-
-      counted : Plainly l w (put TOTAL (memory_of w) w)
-      counted = record { near = record { long = length-set w TOTAL (memory_of w); same = λ x h. same x }; aside = λ x h. same x }
-
-  pub grown_plain : (w : List ℕ) → Plainly l w (grown w)
-  grown_plain w = plainly_two l ok a DEBT _ _ (pacing (omega arith) (omega arith)) (pacing (omega arith) (omega arith)) plainly_none
-
-  -- A finalizer is handed out in Finalize,
-  pub handed_state : (kind : ℕ) (x : UdRef) (left : ℕ) {w b : List ℕ} → at w PHASE ≡ 4 → State l (heap w b) → State l (heap (handed kind x left w) b)
-  unfolding handed
-  handed_state kind x left p s =
-      plain_state l ok a r
-      (plainly_two l ok a REMAINING _ _ (handing (omega arith) (omega arith)) (handing (omega arith) (omega arith))
-      (plainly_handle l ok a OUT _ (handing (omega arith) (omega arith)) (handing (omega arith) (omega arith)) plainly_none))
-      (out_state l ok a r kind (inl p) s)
-
-  -- and taken back.
-  back_plain : (w : List ℕ) → Plainly l (put INTERRUPTED 0 w) (taken_back w)
-  unfolding taken_back
-  back_plain w =
-      plainly_two l ok a REMAINING _ _ (handing (omega arith) (omega arith)) (handing (omega arith) (omega arith))
-      (plainly_handle l ok a OUT _ (handing (omega arith) (omega arith)) (handing (omega arith) (omega arith)) plainly_none)
-
-  pub taken_free : {w b : List ℕ} → State l (heap w b) → Free l (heap (taken_back w) b)
-  taken_free {w} {b} s =
-      free_plain (back_plain w)
-      (record { state = out_state l ok a r 0 (inr refl) s; none = get_or-set_same w INTERRUPTED 0 0 (omega (arith, s.long, o.words, o.header, a)) })
-
-  pub taken_phase : (w : List ℕ) → at (taken_back w) PHASE ≡ at w PHASE
-  taken_phase w = (back_plain w).near.same PHASE (marks (omega arith) (omega arith)) ∙ get_or-set_other w INTERRUPTED PHASE 0 0 (omega arith)
-
   module _ (am : Ample l) (y : Bodies l) where
     -- What a turn leaves: work to go on with, or an end.
     abbrev pub Turned : Turn × Heap → Type 0
     Turned (Left k, h) = Free l h
     Turned (Over x, h) = State l h
 
-    pub cost_state : (left c : ℕ) {w b : List ℕ} → Free l (heap w b) → Turned ((after_cost left c w).0, heap (after_cost left c w).1 b)
-    unfolding after_cost
-    cost_state left c {w} {b} s =
-        eq_both (λ (x : Turn × List ℕ). Turned (x.0, heap x.1 b)) (at w PHASE) 0 (Over Ended, update_threshold w) _ (λ e. plain_state l ok a r (cycle_plain s.state) s.state)
-        (λ d. le_both (λ (x : Turn × List ℕ). Turned (x.0, heap x.1 b)) left c (Over Unfinished, step_ends w) (Left (left - c), w) (λ e. plain_state l ok a r (ends_plain w) s.state) (λ e. s))
-
-    turned_state : (kind left : ℕ) (x : Single × Heap) → After l ok a r am y x → Turned (turned kind left x)
-    turned_state kind left (Cost c, h) s = cost_state left c s
-    turned_state kind left (Out z v, h) s = handed_state kind z left s.1 s.0.state
-
-    pub turn_state : (kind left : ℕ) (h : Heap) → Free l h → Turned (turn l kind left h)
-    unfolding turn
-    turn_state kind left h s = turned_state kind left (single_step l h) (single_after l ok a r am y h s)
-
-    pub on_turn_lem : (x : Turn × Heap) (on : ℕ → Heap → Answer × Heap) → Turned x → ((k : ℕ) (h : Heap) → Free l h → State l (on k h).1) → State l (on_turn x on).1
-    on_turn_lem (Left k, h) on s go = go k h s
-    on_turn_lem (Over z, h) on s go = s
-
-    for_state : (n kind left : ℕ) (h : Heap) → Free l h → State l (budgeted_for n l kind left h).1
-    unfolding budgeted_for
-    for_state zero kind left h s = s.state
-    for_state (suc n) kind left h s = on_turn_lem (turn l kind left h) (λ k g. budgeted_for n l kind k g) (turn_state kind left h s) (λ k g t. for_state n kind k g t)
-
-    -- A budgeted step, and one by the debt.
-    pub budgeted_state : (kind left : ℕ) (h : Heap) → Free l h → State l (budgeted l kind left h).1
-    unfolding budgeted
-    budgeted_state kind left h s = for_state (steps_most l) kind left h s
-
-    pub automatic_state : (kind : ℕ) (h : Heap) → Free l h → State l (automatic l kind h).1
-    unfolding automatic
-    automatic_state kind h s = budgeted_state kind _ (heap (grown h.words) h.bytes) (free_plain (grown_plain h.words) s)
-
     -- Steps until a phase, as far as they come.
     abbrev pub Driven : Half × Heap → Type 0
     Driven (half.Through, h) = Free l h
     Driven (half.Handed z v, h) = State l h
 
-    on_step_lem : (kind : ℕ) (x : Single × Heap) (on : Heap → Half × Heap) → After l ok a r am y x → ((g : Heap) → Free l g → Driven (on g)) → Driven (on_step kind x on)
-    on_step_lem kind (Cost c, h) on s go = go h s
-    on_step_lem kind (Out z v, h) on s go = handed_state kind z 0 s.1 s.0.state
-
-    pub drive_state : (n kind end : ℕ) (h : Heap) → Free l h → Driven (driven_for n l kind end h)
-    unfolding driven_for
-    drive_state zero kind end h s = s
-    drive_state (suc n) kind end h s =
-        le_both Driven (at h.words PHASE) end (half.Through, h) (on_step kind (single_step l h) (λ g. driven_for n l kind end g)) (λ e. s)
-        (λ e. on_step_lem kind (single_step l h) (λ g. driven_for n l kind end g) (single_after l ok a r am y h s) (λ g t. drive_state n kind end g t))
-
-    -- The second half of a full collection.
-    on_second : (x : Half × Heap) → Driven x → State l (on_half x (over update_threshold Ended)).1
-    on_second (half.Through, h) s = plain_state l ok a r (cycle_plain s.state) s.state
-    on_second (half.Handed z v, h) s = s
-
-    pub second_state : (h : Heap) → Free l h → State l (full_second l h).1
-    unfolding full_second driven
-    second_state h s = on_second (driven_for (steps_most l) l 5 0 h) (drive_state (steps_most l) 5 0 h s)
-
     -- In the first half the steps come through: to Pause or Propagate, or a finalizer is handed out.
     abbrev pub Through : Half × Heap → Type 0
     Through (half.Through, h) = Free l h × (at h.words PHASE ≤ 1)
     Through (half.Handed z v, h) = State l h
-
-    step_through : (kind : ℕ) (x : Single × Heap) (on : Heap → Half × Heap) → After l ok a r am y x → Through (on x.1) → Through (on_step kind x on)
-    step_through kind (Cost c, h) on s t = t
-    step_through kind (Out z v, h) on s t = handed_state kind z 0 s.1 s.0.state
-
-    -- there already
-    drive_there : (n kind : ℕ) (h : Heap) → Free l h → at h.words PHASE ≤ 1 → Through (driven_for n l kind 1 h)
-    unfolding driven_for
-    drive_there zero kind h s p = (s, p)
-    drive_there (suc n) kind h s p =
-        le_both Through (at h.words PHASE) 1 (half.Through, h) (on_step kind (single_step l h) (λ g. driven_for n l kind 1 g)) (λ e. (s, p)) (λ e. absurd (let z : ⊥ = omega (arith, e, p) in z))
-
-    -- one step on
-    drive_step : (n kind : ℕ) (h : Heap) → Free l h → 1 < at h.words PHASE → Through (driven_for n l kind 1 (single_step l h).1) → Through (driven_for (suc n) l kind 1 h)
-    unfolding driven_for
-    drive_step n kind h s p t =
-        le_both Through (at h.words PHASE) 1 (half.Through, h) (on_step kind (single_step l h) (λ g. driven_for n l kind 1 g)) (λ e. absurd (let z : ⊥ = omega (arith, e, p) in z))
-        (λ e. step_through kind (single_step l h) (λ g. driven_for n l kind 1 g) (single_after l ok a r am y h s) t)
-
-    -- from Finalize: a step for each that is queued, and one
-    drive_final : (n kind : ℕ) (h : Heap) → Free l h → at h.words PHASE ≡ 4 → length_of l.queue h.words + 1 ≤ n → Through (driven_for n l kind 1 h)
-    drive_final zero kind h s p f = absurd (none (length_of l.queue h.words) f)
-      where
-        none : (x : ℕ) → x + 1 ≤ 0 → ⊥
-        none x f = omega (arith, f)
-    drive_final (suc n) kind h s p f = drive_step n kind h s (omega (arith, p)) (go m.phase (λ e k. drive_final n kind (single_step l h).1 m.free e k))
-      where
-        m : Final l ok a r h (single_step l h).1
-        m = subst (λ (g : Heap). Final l ok a r h g) (sym (ap (λ (x : Single × Heap). x.1) (finalize_step_lem l h p))) (final_free l ok a r h.words h.bytes s p).0
-
-        less : (x z : ℕ) → x + 1 ≡ z → z + 1 ≤ suc n → x + 1 ≤ n
-        less x z e g = omega (arith, e, g)
-
-        go : (at (single_step l h).1.words PHASE ≡ 0) ⊎ ((at (single_step l h).1.words PHASE ≡ 4) × (length_of l.queue (single_step l h).1.words + 1 ≡ length_of l.queue h.words))
-            → (at (single_step l h).1.words PHASE ≡ 4 → length_of l.queue (single_step l h).1.words + 1 ≤ n → Through (driven_for n l kind 1 (single_step l h).1))
-            → Through (driven_for n l kind 1 (single_step l h).1)
-        go (inl e) rest = drive_there n kind (single_step l h).1 m.free (omega (arith, e))
-        go (inr e) rest = rest e.0 (less (length_of l.queue (single_step l h).1.words) (length_of l.queue h.words) e.1 f)
-
-    -- from the sweep: before that a step for each slot and each arena that is still to be swept
-    drive_sweep : (n kind : ℕ) (h : Heap) (s : Free l h) (t : Swept l h.words) → t.arena ≤ 5 → before l 6 + length_of l.queue h.words + 1 ≤ n + (before l t.arena + t.slot)
-        → Through (driven_for n l kind 1 h)
-    drive_sweep zero kind h s t i f =
-        absurd (none (before l t.arena + t.slot) (before l 6) (length_of l.queue h.words) (before_last l t.arena t.slot i (small t i)) f)
-      where
-        small : (t : Swept l h.words) (i : t.arena ≤ 5) → t.slot ≤ (arena_of l t.arena).slots
-        small t i = omega (arith, t.within i, (s.state.arenas t.arena i).within)
-
-        none : (x z q : ℕ) → x + 1 ≤ z → z + q + 1 ≤ 0 + x → ⊥
-        none x z q f g = omega (arith, f, g)
-    drive_sweep (suc n) kind h s t i f =
-        drive_step n kind h s phase (go (dec_lt m.swept.arena 6) (λ j k. drive_sweep n kind (single_step l h).1 m.free m.swept j k))
-      where
-        m : Sweeping l ok a r h (single_step l h).1 t.arena t.slot
-        m = sweep_free l ok a r h s t i
-
-        phase : 1 < at h.words PHASE
-        phase = pick (ℕ_discrete t.arena 0)
-          where
-            pick : Dec (t.arena ≡ 0) → 1 < at h.words PHASE
-            pick (yes e) = omega (arith, (t.strings e).0)
-            pick (no e) = omega (arith, (t.others (omega (arith, e)) i).0)
-
-        small : t.slot ≤ (arena_of l t.arena).slots
-        small = omega (arith, t.within i, (s.state.arenas t.arena i).within)
-
-        queue : length_of l.queue (single_step l h).1.words ≡ length_of l.queue h.words
-        queue = ap (λ (k : ℕ). min k l.queue.room) (ap (at (single_step l h).1.words) (queue_count l ok) ∙ m.queue ∙ ap (at h.words) (sym (queue_count l ok)))
-
-        -- further on
-        on : before l t.arena + t.slot + 1 ≤ before l m.swept.arena + m.swept.slot
-        on = pick m.on
-          where
-            here : (x z p q : ℕ) → z ≡ x → p + 80 ≤ q → x + p + 1 ≤ z + q
-            here x z p q e f = omega (arith, e, f)
-
-            next : (x z p q s : ℕ) → z ≡ x + s + 1 → p ≤ s → q ≡ 0 → x + p + 1 ≤ z + q
-            next x z p q s e f g = omega (arith, e, f, g)
-
-            pick : Progress t.arena t.slot m.swept.arena m.swept.slot → before l t.arena + t.slot + 1 ≤ before l m.swept.arena + m.swept.slot
-            pick (inl e) = here (before l t.arena) (before l m.swept.arena) t.slot m.swept.slot (ap (before l) e.0) e.1
-            pick (inr e) =
-                next (before l t.arena) (before l m.swept.arena) t.slot m.swept.slot (arena_of l t.arena).slots (ap (before l) e.0 ∙ before_next l t.arena) small e.1
-
-        still : (x z u v q : ℕ) → x + 1 ≤ z → v ≡ q → u + q + 1 ≤ suc n + x → u + v + 1 ≤ n + z
-        still x z u v q e g k = omega (arith, e, g, k)
-
-        last : (x u v q : ℕ) → x + 1 ≤ u → v ≡ q → u + q + 1 ≤ suc n + x → v + 1 ≤ n
-        last x u v q e g k = omega (arith, e, g, k)
-
-        go : Dec (m.swept.arena < 6)
-            → (m.swept.arena ≤ 5 → before l 6 + length_of l.queue (single_step l h).1.words + 1 ≤ n + (before l m.swept.arena + m.swept.slot) → Through (driven_for n l kind 1 (single_step l h).1))
-            → Through (driven_for n l kind 1 (single_step l h).1)
-        go (yes d) rest =
-            rest (omega (arith, d))
-            (still (before l t.arena + t.slot) (before l m.swept.arena + m.swept.slot) (before l 6) (length_of l.queue (single_step l h).1.words) (length_of l.queue h.words) on queue f)
-        go (no d) rest =
-            ⊎_elim (λ e. drive_there n kind (single_step l h).1 m.free (omega (arith, e)))
-            (λ e. drive_final n kind (single_step l h).1 m.free e
-            (last (before l t.arena + t.slot) (before l 6) (length_of l.queue (single_step l h).1.words) (length_of l.queue h.words) (before_last l t.arena t.slot i small) queue f))
-            (m.swept.ended (omega (arith, d, m.swept.most)))
-
-    -- As many steps as are made are enough.
-    pub drive_through : (kind : ℕ) (h : Heap) → Free l h → 2 ≤ at h.words PHASE → Through (driven l kind 1 h)
-    unfolding driven
-    drive_through kind h s p = go (ℕ_discrete (at h.words PHASE) 2) (ℕ_discrete (at h.words PHASE) 3)
-      where
-        t : Swept l h.words
-        t = s.state.swept (λ e. omega (arith, e, p))
-
-        few : length_of l.queue h.words ≤ l.queue.room
-        few = omega arith
-
-        enough : (q x z : ℕ) → q ≤ l.queue.room → x ≡ l.strings.slots + l.tables.slots + l.functions.slots + l.upvalues.slots + l.userdata.slots + l.threads.slots + 6 → x + q + 1 ≤ steps_most l + z
-        enough q x z f e = omega (arith, f, e)
-
-        sweeps : t.arena ≤ 5 → Through (driven_for (steps_most l) l kind 1 h)
-        sweeps i = drive_sweep (steps_most l) kind h s t i (enough (length_of l.queue h.words) (before l 6) (before l t.arena + t.slot) few (before_all l))
-
-        ready : (q : ℕ) → q ≤ l.queue.room → q + 1 ≤ steps_most l
-        ready q f = omega (arith, f)
-
-        go : Dec (at h.words PHASE ≡ 2) → Dec (at h.words PHASE ≡ 3) → Through (driven_for (steps_most l) l kind 1 h)
-        go (yes e) d = sweeps (swept_on t (inl e))
-        go (no c) (yes e) = sweeps (swept_on t (inr e))
-        go (no c) (no d) =
-            drive_final (steps_most l) kind h s (⊎_elim (λ z. absurd (let y : ⊥ = omega (arith, z, p) in y)) (λ z. z) (swept_past t c d).1) (ready (length_of l.queue h.words) few)
-
-    -- The first half of a full collection, then the second.
-    on_first : (x : Half × Heap) → Through x → State l (on_half x (λ g. full_second l (heap (start_cycle l g.words) g.bytes))).1
-    on_first (half.Through, h) s = second_state (heap (start_cycle l h.words) h.bytes) (start_free l ok a r am s.1 s.0.state)
-    on_first (half.Handed z v, h) s = s
-
-    pub first_state : (h : Heap) → Free l h → 2 ≤ at h.words PHASE → State l (full_first l h).1
-    unfolding full_first
-    first_state h s p = on_first (driven l 4 1 h) (drive_through 4 h s p)

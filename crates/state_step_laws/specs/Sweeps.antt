@@ -32,7 +32,8 @@ use Rattle.mark_laws.specs.Apart.{Apart, Order, order, arena_lists}
 use Rattle.atomic_laws.proofs.Survives.{other_white_lem}
 use Rattle.sweep_laws.specs.Places.{Rows, six_room, top_is, low_outside, header_outside, arena_at_lem}
 use Rattle.sweep_laws.specs.Batches.{Clean, clean_none}
-use Rattle.sweep_laws.specs.Turns.{To, Stage, strings_step, others_step, Progress, stage_step}
+use Rattle.sweep_laws.specs.Turns.{To, Stage, Progress}
+use Rattle.sweep_laws.proofs.Turns.{strings_step, others_step, stage_step}
 use Rattle.state_laws.specs.State.{worth, Sum, Swept, State, state_parted, mains_same, nested_same, lists_same, sizes_same}
 use Rattle.state_laws.specs.Takes.{kind_size}
 use Rattle.state_laws.proofs.Takes.{worth_more}

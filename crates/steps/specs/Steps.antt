@@ -1,6 +1,6 @@
 -- The calls that step. While a finalizer is out, single, budgeted and full steps answer Busy and change nothing, but an
 -- automatic step adds to the debt first and a check only tests the limit. Assumes nothing.
-use Rattle.std.specs.Prelude.{Bool, true, false, cond, List, ℕ, ◌+◌, ltb, leb, ℤ}
+use Rattle.std.specs.Prelude.{Bool, false, cond, List, ℕ, ltb, leb, ℤ}
 use Rattle.base.specs.Ways.{if_eq}
 use Rattle.base.specs.Words.{at, get64, put64}
 use Rattle.base.specs.Heap.{Heap, heap}

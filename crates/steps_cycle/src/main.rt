@@ -12,6 +12,7 @@ use lines::number_at;
 use part_reads::{Listed, Main, Which};
 use print::{count, long, say};
 use reads::{Counter, Read};
+use std::io;
 use value::UdRef;
 
 // A call that steps.
@@ -107,46 +108,46 @@ fn counter(w: &[u32], b: &[u8], c: Counter) -> u64 {
 }
 
 // The arenas by the number that the cursor has for them.
-fn arena(n: u64) {
+fn arena(rt: &impl Print, n: u64) -> io::Result<()> {
     match n {
-        0 => say(b"tables"),
-        1 => say(b"functions"),
-        2 => say(b"upvalues"),
-        3 => say(b"userdata"),
-        _ => say(b"threads"),
+        0 => say(rt, b"tables"),
+        1 => say(rt, b"functions"),
+        2 => say(rt, b"upvalues"),
+        3 => say(rt, b"userdata"),
+        _ => say(rt, b"threads"),
     }
 }
 
 // Phase and cursor.
-fn place(w: &[u32], b: &[u8]) {
-    say(b"  ");
-    print::phase(counter(w, b, Counter::Phase));
-    say(b", cursor at ");
-    arena(counter(w, b, Counter::CursorArena));
+fn place(rt: &impl Print, w: &[u32], b: &[u8]) -> io::Result<()> {
+    say(rt, b"  ")?;
+    print::phase(rt, counter(w, b, Counter::Phase))?;
+    say(rt, b", cursor at ")?;
+    arena(rt, counter(w, b, Counter::CursorArena))
 }
 
-fn amount(w: &[u32], b: &[u8], name: &[u8], c: Counter) {
-    long(name, counter(w, b, c), b"");
+fn amount(rt: &impl Print, w: &[u32], b: &[u8], name: &[u8], c: Counter) -> io::Result<()> {
+    long(rt, name, counter(w, b, c), b"")
 }
 
 // The cursor's slot, and the counters.
-fn counters(w: &[u32], b: &[u8]) {
-    amount(w, b, b" ", Counter::CursorSlot);
-    amount(w, b, b", total ", Counter::Total);
-    amount(w, b, b", peak ", Counter::Peak);
-    amount(w, b, b", estimate ", Counter::Estimate);
-    amount(w, b, b", threshold ", Counter::Threshold);
-    print::signed(b", debt ", counter(w, b, Counter::Debt), b"\n");
+fn counters(rt: &impl Print, w: &[u32], b: &[u8]) -> io::Result<()> {
+    amount(rt, w, b, b" ", Counter::CursorSlot)?;
+    amount(rt, w, b, b", total ", Counter::Total)?;
+    amount(rt, w, b, b", peak ", Counter::Peak)?;
+    amount(rt, w, b, b", estimate ", Counter::Estimate)?;
+    amount(rt, w, b, b", threshold ", Counter::Threshold)?;
+    print::signed(rt, b", debt ", counter(w, b, Counter::Debt), b"\n")
 }
 
 // Item i of a list, with what parts it from the one before.
-fn listed(w: &[u32], b: &[u8], which: Which, i: u32) {
+fn listed(rt: &impl Print, w: &[u32], b: &[u8], which: Which, i: u32) -> io::Result<()> {
     if 0 < i {
-        say(b", ");
+        say(rt, b", ")?;
     }
     match part_reads::read_list(w, b, which, Listed::At(i)) {
-        Read::Item(x) => print_answer::item(x),
-        _ => say(b"no item"),
+        Read::Item(x) => print_answer::item(rt, x),
+        _ => say(rt, b"no item"),
     }
 }
 
@@ -159,148 +160,156 @@ fn items(w: &[u32], b: &[u8], which: Which) -> u32 {
     12289
 }
 
-fn list(w: &[u32], b: &[u8], name: &[u8], which: Which) {
+fn list(rt: &impl Print, w: &[u32], b: &[u8], name: &[u8], which: Which) -> io::Result<()> {
     let n = items(w, b, which);
-    say(name);
+    say(rt, name)?;
     if n == 0 {
-        say(b"none");
+        say(rt, b"none")?;
     }
     let mut i: u32 = 0;
     while i < n {
-        listed(w, b, which, i);
+        listed(rt, w, b, which, i)?;
         i += 1;
     }
+    Ok(())
 }
 
-fn lists(w: &[u32], b: &[u8]) {
-    list(w, b, b"  gray: ", Which::Gray);
-    list(w, b, b"; grayagain: ", Which::Grayagain);
-    list(w, b, b"; weak: ", Which::Weak);
-    list(w, b, b"; queue: ", Which::Queue);
-    say(b"\n");
+fn lists(rt: &impl Print, w: &[u32], b: &[u8]) -> io::Result<()> {
+    list(rt, w, b, b"  gray: ", Which::Gray)?;
+    list(rt, w, b, b"; grayagain: ", Which::Grayagain)?;
+    list(rt, w, b, b"; weak: ", Which::Weak)?;
+    list(rt, w, b, b"; queue: ", Which::Queue)?;
+    say(rt, b"\n")
 }
 
 // What is written after each call.
-fn show(w: &[u32], b: &[u8], a: Answer) {
-    print_answer::answer(a);
-    place(w, b);
-    counters(w, b);
-    lists(w, b);
+fn show(rt: &impl Print, w: &[u32], b: &[u8], a: Answer) -> io::Result<()> {
+    print_answer::answer(rt, a)?;
+    place(rt, w, b)?;
+    counters(rt, w, b)?;
+    lists(rt, w, b)
 }
 
 // A call, after its name.
-fn make(w: &mut [u32], b: &mut [u8], by: By) -> Answer {
+fn make(rt: &impl Print, w: &mut [u32], b: &mut [u8], by: By) -> io::Result<Answer> {
     match by {
         By::Single => {
-            say(b"gc_singlestep: ");
-            steps::gc_singlestep(w, b)
+            say(rt, b"gc_singlestep: ")?;
+            Ok(steps::gc_singlestep(w, b))
         }
         By::Budget(n) => {
-            count(b"gc_step ", n, b": ");
-            steps::gc_step(w, b, n as i64)
+            count(rt, b"gc_step ", n, b": ")?;
+            Ok(steps::gc_step(w, b, n as i64))
         }
         By::Automatic => {
-            say(b"gc_step_auto: ");
-            steps::gc_step_auto(w, b)
+            say(rt, b"gc_step_auto: ")?;
+            Ok(steps::gc_step_auto(w, b))
         }
         By::Check => {
-            say(b"gc_check: ");
-            steps::gc_check(w, b)
+            say(rt, b"gc_check: ")?;
+            Ok(steps::gc_check(w, b))
         }
         By::Full => {
-            say(b"full_gc: ");
-            steps::full_gc(w, b)
+            say(rt, b"full_gc: ")?;
+            Ok(steps::full_gc(w, b))
         }
     }
 }
 
-fn once(w: &mut [u32], b: &mut [u8], by: By) {
-    let a = make(w, b, by);
-    show(w, b, a);
+fn once(rt: &impl Print, w: &mut [u32], b: &mut [u8], by: By) -> io::Result<()> {
+    let a = make(rt, w, b, by)?;
+    show(rt, w, b, a)
 }
 
 // While a finalizer is out other steps are busy, an automatic one adds to the debt, and a check tests the limit.
-fn meanwhile(w: &mut [u32], b: &mut [u8]) {
-    once(w, b, By::Single);
-    once(w, b, By::Automatic);
-    once(w, b, By::Check);
+fn meanwhile(rt: &impl Print, w: &mut [u32], b: &mut [u8]) -> io::Result<()> {
+    once(rt, w, b, By::Single)?;
+    once(rt, w, b, By::Automatic)?;
+    once(rt, w, b, By::Check)
 }
 
 // The finalizer of r is over. That of userdata 6 fails.
-fn finish(w: &mut [u32], b: &mut [u8], r: UdRef) -> Answer {
+fn finish(rt: &impl Print, w: &mut [u32], b: &mut [u8], r: UdRef) -> io::Result<Answer> {
     if r.0 == 6 {
-        meanwhile(w, b);
-        say(b"finish with failure: ");
-        return steps::finish(w, b, false);
+        meanwhile(rt, w, b)?;
+        say(rt, b"finish with failure: ")?;
+        return Ok(steps::finish(w, b, false));
     }
-    say(b"finish with success: ");
-    steps::finish(w, b, true)
+    say(rt, b"finish with success: ")?;
+    Ok(steps::finish(w, b, true))
 }
 
 // After a call that gave this answer: what it handed out is finished, else the cycle's call is made again.
-fn go_on(w: &mut [u32], b: &mut [u8], by: By, last: Answer) -> Answer {
+fn go_on(rt: &impl Print, w: &mut [u32], b: &mut [u8], by: By, last: Answer) -> io::Result<Answer> {
     match last {
-        Answer::Handed(r, _) => finish(w, b, r),
-        _ => make(w, b, by),
+        Answer::Handed(r, _) => finish(rt, w, b, r),
+        _ => make(rt, w, b, by),
     }
 }
 
-fn turn(w: &mut [u32], b: &mut [u8], by: By, last: Answer) -> Answer {
-    let a = go_on(w, b, by, last);
-    show(w, b, a);
-    a
+fn turn(rt: &impl Print, w: &mut [u32], b: &mut [u8], by: By, last: Answer) -> io::Result<Answer> {
+    let a = go_on(rt, w, b, by, last)?;
+    show(rt, w, b, a)?;
+    Ok(a)
 }
 
 // Calls until the phase is Pause, at most 100.
-fn cycle(w: &mut [u32; 9187], b: &mut [u8; 1024], by: By) {
+fn cycle(rt: &impl Print, w: &mut [u32; 9187], b: &mut [u8; 1024], by: By) -> io::Result<()> {
     let mut last = Answer::Busy;
     let mut left: usize = 100;
     while 0 < left {
-        last = turn(w, b, by, last);
+        last = turn(rt, w, b, by, last)?;
         if counter(w, b, Counter::Phase) == 0 {
-            return;
+            return Ok(());
         }
         left -= 1;
     }
+    Ok(())
 }
 
 // The main stack is popped: its top is one less, and the value stays where it is.
-fn pop(w: &mut [u32; 9187], b: &[u8]) {
+fn pop(rt: &impl Print, w: &mut [u32; 9187], b: &[u8]) -> io::Result<()> {
     let top = number(part_reads::read_main(w, b, Main::Top));
     if top == 0 {
-        return;
+        return Ok(());
     }
     if 256 < top {
-        return;
+        return Ok(());
     }
     match part_reads::read_main(w, b, Main::Stack((top - 1) as u32)) {
-        Read::Value(v) => print_answer::value(v),
-        _ => say(b"no value"),
+        Read::Value(v) => print_answer::value(rt, v)?,
+        _ => say(rt, b"no value")?,
     }
-    say(b" is popped\n");
+    say(rt, b" is popped\n")?;
     main_record::set_main_top(w, (top - 1) as usize);
+    Ok(())
 }
 
-fn pop_and_cycle(w: &mut [u32; 9187], b: &mut [u8; 1024], by: By) {
-    pop(w, b);
-    cycle(w, b, by);
+fn pop_and_cycle(
+    rt: &impl Print,
+    w: &mut [u32; 9187],
+    b: &mut [u8; 1024],
+    by: By,
+) -> io::Result<()> {
+    pop(rt, w, b)?;
+    cycle(rt, w, b, by)
 }
 
-fn cycles(w: &mut [u32; 9187], b: &mut [u8; 1024]) {
-    cycle(w, b, By::Single);
-    pop_and_cycle(w, b, By::Single);
-    pop_and_cycle(w, b, By::Budget(0));
-    pop_and_cycle(w, b, By::Budget(1));
-    pop_and_cycle(w, b, By::Budget(100));
-    pop_and_cycle(w, b, By::Budget(1000000000));
-    pop_and_cycle(w, b, By::Full);
+fn cycles(rt: &impl Print, w: &mut [u32; 9187], b: &mut [u8; 1024]) -> io::Result<()> {
+    cycle(rt, w, b, By::Single)?;
+    pop_and_cycle(rt, w, b, By::Single)?;
+    pop_and_cycle(rt, w, b, By::Budget(0))?;
+    pop_and_cycle(rt, w, b, By::Budget(1))?;
+    pop_and_cycle(rt, w, b, By::Budget(100))?;
+    pop_and_cycle(rt, w, b, By::Budget(1000000000))?;
+    pop_and_cycle(rt, w, b, By::Full)
 }
 
-fn main() {
-    let mut read = io::large_buffer();
-    let n = io::read_full(libc::STDIN_FILENO, &mut read);
+fn main(rt: HostRuntime) -> io::Result<()> {
+    let mut read = [0u8; 65536];
+    let n = lines::read_full(&mut rt.reader(), &mut read)?;
     let mut w = [0u32; 9187];
     let mut b = [0u8; 1024];
     start(&mut w, &mut b, &read[..n]);
-    cycles(&mut w, &mut b);
+    cycles(&rt, &mut w, &mut b)
 }

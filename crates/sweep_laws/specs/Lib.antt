@@ -5,4 +5,3 @@ pub mod Repaints
 pub mod Collections
 pub mod Mixtures
 pub mod Finalizes
-pub mod Outcomes

@@ -1,6 +1,6 @@
 -- One sweep step: a batch of 80 occupied slots of the arena at the cursor, what they took off total and estimate, the cursor
 -- moved. Assumes nothing.
-use Rattle.std.specs.Prelude.{cond, List, ℕ, ◌+◌, ◌-◌, ◌*◌}
+use Rattle.std.specs.Prelude.{cond, List, ℕ, ◌-◌, ◌*◌}
 use Rattle.base.specs.Ways.{if_lt, if_eq}
 use Rattle.base.specs.Words.{at, put}
 use Rattle.base.specs.Heap.{Heap, heap}

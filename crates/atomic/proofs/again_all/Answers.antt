@@ -1,0 +1,35 @@
+-- `atomic::again_all` meets its contract: what is left of the loop gives the whole. Assumes nothing.
+use mathlib.Core.Path.{refl, ◌∙◌}
+use native.Mathlib.Omega.{arith}
+use Rattle.base.specs.Loop.{run_again, run_end}
+use Rattle.laid.specs.Laid.{grayagain_room_lem, sizes_laid}
+use Rattle.atomic.specs.Atomic.{again_all}
+use Rattle.atomic.proofs.again_all.Goals as goal
+
+pub grayagain_of-requires : goal.grayagain_of-requires
+grayagain_of-requires c = sizes_laid _ c.requires.laid
+
+pub length_of-n-requires : goal.length_of-n-requires
+length_of-n-requires c = rw c.grayagain_of.ensures (grayagain_room_lem _ _ c.requires.laid c.requires.l_in_bounds)
+
+pub loop-k-init : goal.loop-k-init
+loop-k-init c = record { rest = refl; long = refl }
+
+pub again_listed-requires : goal.again_listed-requires
+again_listed-requires c = record { laid = c.requires.laid; l_in_bounds = omega (arith, c.requires.l_in_bounds, c.loop-k.invariant.long); l_in_bounds_2 = c.requires.l_in_bounds_2 }
+
+pub overflow_add-k : goal.overflow_add-k
+overflow_add-k c = omega arith
+
+pub loop-k-smaller : goal.loop-k-smaller
+loop-k-smaller c = omega (arith, c.loop-k-test.true)
+
+pub loop-k-preserved : goal.loop-k-preserved
+loop-k-preserved c = record { rest = run_again _ c.loop-k.invariant.rest c.loop-k-test.true c.again_listed.ensures; long = c.again_listed.auto.w ∙ c.loop-k.invariant.long }
+
+pub shape_of-w : goal.shape_of-w
+shape_of-w c = c.loop-k.invariant.long
+
+pub returns : goal.returns
+unfolding again_all
+returns c = rw (← (rw c.grayagain_of.ensures at c.length_of-n.ensures).0) (run_end _ c.loop-k.invariant.rest c.loop-k-test.false)

@@ -1,0 +1,10 @@
+-- `heap_header::alike_bytes` meets its contract: what is left of the loop gives the whole. Assumes nothing.
+use Prim.Native.Nat.{◌-◌, ◌≤◌}
+use lib.ListN.{length}
+use Rattle.heap_header.proofs.alike_bytes.Given as goal
+
+abbrev pub invariant-loop-i : goal.invariant-loop-i
+invariant-loop-i l = l.e ≤ length l.b
+
+abbrev pub decreases-loop-i : goal.decreases-loop-i
+decreases-loop-i l = l.e - l.i

@@ -1,0 +1,12 @@
+-- `heapscript::run_part` meets its contract: lengths stay, and what is gathered lies within the line. Assumes nothing.
+use native.Mathlib.Omega.{arith}
+use mathlib.Core.Path.{◌≡◌, refl, ◌∙◌}
+use Prim.Native.Nat.{◌-◌, ◌≤◌}
+use lib.ListN.{length}
+use Rattle.heapscript.proofs.run_part.Given as goal
+
+abbrev pub invariant-loop-s : goal.invariant-loop-s
+invariant-loop-s g l = (l.s.count ≤ length l.initial.line) × (length l.w ≡ length l.initial.w) × (length l.b ≡ length l.initial.b) × (length l.made ≡ length l.initial.made) × (length l.line ≡ length l.initial.line)
+
+abbrev pub decreases-loop-s : goal.decreases-loop-s
+decreases-loop-s g l = length l.part - l.s.at

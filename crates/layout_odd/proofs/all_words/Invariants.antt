@@ -1,0 +1,10 @@
+-- `layout_odd::all_words` meets its contract: what is left of the loop gives the whole. Assumes nothing.
+use Prim.Native.Nat.{◌+◌, ◌-◌, ◌≤◌}
+use lib.ListN.{length}
+use Rattle.layout_odd.proofs.all_words.Given as goal
+
+abbrev pub invariant-loop-n : goal.invariant-loop-n
+invariant-loop-n g l = l.n ≤ length l.w + 1
+
+abbrev pub decreases-loop-n : goal.decreases-loop-n
+decreases-loop-n g l = length l.w + 1 - l.n

@@ -1,0 +1,9 @@
+-- What is read fits the text, and each read that gives bytes leaves fewer to come.
+use Rattle.std.proofs.Common.{length, ◌-◌, ◌≤◌}
+use Rattle.lines.proofs.read_full.Given as goal
+
+abbrev pub invariant-loop-done : goal.invariant-loop-done
+invariant-loop-done g l = l.done ≤ length l.text
+
+abbrev pub decreases-loop-done : goal.decreases-loop-done
+decreases-loop-done g l = length l.text - l.done

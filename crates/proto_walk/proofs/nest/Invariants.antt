@@ -1,0 +1,12 @@
+-- `proto_walk::nest` meets its contract: the words are as long as the layout says, and eight numbers are put. Assumes nothing.
+use Prim.Native.Nat.{◌-◌}
+use native.Mathlib.Omega.{arith}
+use borrow.Author.Rules.{rules}
+use Rattle.run_walk.proofs.Laws.{parts_in}
+use Rattle.proto_walk.proofs.nest.Given as goal
+
+abbrev pub invariant-loop-k : goal.invariant-loop-k
+invariant-loop-k l = Unit {0}
+
+abbrev pub decreases-loop-k : goal.decreases-loop-k
+decreases-loop-k l = 8 - l.k

@@ -1,0 +1,9 @@
+-- `proto_walk::nest_all` meets its contract: the measure is the prototypes that are left. Assumes nothing.
+use Prim.Native.Nat.{◌-◌, ◌≤◌}
+use borrow.Author.Rules.{rules}
+use Rattle.layout.specs.Layout.{lay_of}
+use Rattle.proto_walk.proofs.nest_all.Goals as goal
+
+pub nest-requires : goal.nest-requires
+unfolding lay_of
+nest-requires c = record { laid = c.requires.laid; l_bound = c.requires.l_bound; n_nonzero = (c.loop-n.invariant, c.loop-n-test.true, c.if-l-n.false) }

@@ -1,0 +1,11 @@
+-- `proto_walk::nest_all` meets its contract: the measure is the prototypes that are left. Assumes nothing.
+use Prim.Native.Nat.{◌-◌, ◌≤◌}
+use borrow.Author.Rules.{rules}
+use Rattle.layout.specs.Layout.{lay_of}
+use Rattle.proto_walk.proofs.nest_all.Given as goal
+
+abbrev pub invariant-loop-n : goal.invariant-loop-n
+invariant-loop-n l = 1 ≤ l.n
+
+abbrev pub decreases-loop-n : goal.decreases-loop-n
+decreases-loop-n l = 256 - l.n

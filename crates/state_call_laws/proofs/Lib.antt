@@ -1,0 +1,5 @@
+pub mod Nests
+pub mod Written
+pub mod Protos
+pub mod Closures
+pub mod Makes

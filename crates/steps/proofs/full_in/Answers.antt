@@ -1,0 +1,16 @@
+-- `steps::full_in` meets its contract: the callees' equations joined. Assumes nothing.
+use native.Mathlib.Omega.{arith}
+use Rattle.run_walk.proofs.Laws.{parts_in}
+use Rattle.steps.specs.Steps.{full_in}
+use Rattle.steps.proofs.full_in.Goals as goal
+
+pub is_out-requires : goal.is_out-requires
+is_out-requires c = omega (arith, (parts_in c.requires.laid c.requires.l_in_bounds).header)
+
+pub returns-then-is_out : goal.returns-then-is_out
+unfolding full_in
+returns-then-is_out c = rw (← c.is_out.ensures, c.if-is_out.true)
+
+pub returns : goal.returns
+unfolding full_in
+returns c = rw (← c.is_out.ensures, c.if-is_out.false, ← c.give_up_marking.ensures) c.full_first.ensures

@@ -1,0 +1,10 @@
+-- `steps_cycle::list` meets its contract: the measure is what is left of the list. Assumes nothing.
+use Prim.Native.Nat.{◌-◌}
+use borrow.Author.Rules.{rules}
+use Rattle.steps_cycle.proofs.list.Given as goal
+
+abbrev pub invariant-loop-i : goal.invariant-loop-i
+invariant-loop-i g l = Unit {0}
+
+abbrev pub decreases-loop-i : goal.decreases-loop-i
+decreases-loop-i g l = l.n - l.i

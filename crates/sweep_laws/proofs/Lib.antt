@@ -1,0 +1,5 @@
+pub mod Turns
+pub mod Collections
+pub mod Mixtures
+pub mod Finalizes
+pub mod Outcomes

@@ -1,0 +1,41 @@
+-- `sweep_step::arena_at` meets its contract: each way by its test. Assumes nothing.
+use native.Mathlib.Omega.{arith}
+use Rattle.laid.specs.Laid.{sizes_laid}
+use Rattle.base.specs.Ways.{eq_yes, eq_no}
+use Rattle.sweep_step.specs.Sweeping.{arena_at}
+use Rattle.sweep_step.proofs.arena_at.Goals as goal
+
+pub tables_of-requires : goal.tables_of-requires
+tables_of-requires c = sizes_laid _ c.requires
+
+pub functions_of-requires : goal.functions_of-requires
+functions_of-requires c = sizes_laid _ c.requires
+
+pub upvalues_of-requires : goal.upvalues_of-requires
+upvalues_of-requires c = sizes_laid _ c.requires
+
+pub userdata_of-requires : goal.userdata_of-requires
+userdata_of-requires c = sizes_laid _ c.requires
+
+pub threads_of-requires : goal.threads_of-requires
+threads_of-requires c = sizes_laid _ c.requires
+
+pub returns-in-0 : goal.returns-in-0
+unfolding arena_at
+returns-in-0 c = eq_yes _ _ _ _ _ (omega arith) c.tables_of.ensures
+
+pub returns-in-1 : goal.returns-in-1
+unfolding arena_at
+returns-in-1 c = eq_no _ _ _ _ _ (λ e. omega arith) (eq_yes _ _ _ _ _ (omega arith) c.functions_of.ensures)
+
+pub returns-in-2 : goal.returns-in-2
+unfolding arena_at
+returns-in-2 c = eq_no _ _ _ _ _ (λ e. omega arith) (eq_no _ _ _ _ _ (λ e. omega arith) (eq_yes _ _ _ _ _ (omega arith) c.upvalues_of.ensures))
+
+pub returns-in-3 : goal.returns-in-3
+unfolding arena_at
+returns-in-3 c = eq_no _ _ _ _ _ (λ e. omega arith) (eq_no _ _ _ _ _ (λ e. omega arith) (eq_no _ _ _ _ _ (λ e. omega arith) (eq_yes _ _ _ _ _ (omega arith) c.userdata_of.ensures)))
+
+pub returns-in_default : goal.returns-in_default
+unfolding arena_at
+returns-in_default c = eq_no _ _ _ _ _ (λ e. omega arith) (eq_no _ _ _ _ _ (λ e. omega arith) (eq_no _ _ _ _ _ (λ e. omega arith) (eq_no _ _ _ _ _ (λ e. omega arith) (c.threads_of.ensures))))
