@@ -5,7 +5,6 @@
 use Rattle.std.specs.Prelude.{◌≡◌, ℕ, ◌≤◌, ◌<◌, ltb}
 use Rattle.std.proofs.Common.{sym, ap, subst, ◌∙◌, inl, inr, arith}
 use mathlib.Core.List.{List, Memᴰ}
-use Rattle.base.specs.Words.{at}
 use Rattle.value.specs.declared.TableRef.{TableRef}
 use Rattle.value.specs.declared.TableOr.{TableOr}
 use Rattle.value.specs.Values.{is_nil}

@@ -11,7 +11,7 @@ use Rattle.std.proofs.Math.Decide.{ℕ_discrete}
 use Rattle.std.proofs.Math.Seq.{get_or-set_other}
 use Rattle.base.specs.Ways.{eq_yes, eq_no}
 use Rattle.base.specs.Words.{at, put}
-use Rattle.arena.specs.Slots.{used, gen}
+use Rattle.arena.specs.Slots.{used}
 use Rattle.value.specs.declared.TableRef.{TableRef}
 use Rattle.layout.specs.declared.Lay.{Lay}
 use Rattle.layout.specs.Places.{PHASE, WHITE, CURSOR_ARENA, CURSOR_SLOT, TOTAL, ESTIMATE}

@@ -11,7 +11,7 @@ use Rattle.base.specs.Ways.{if_eq}
 use Rattle.base.specs.Words.{at}
 use Rattle.arena.specs.declared.Arena.{Arena}
 use Rattle.arena.specs.declared.Named.TheVariants.{At, Stale}
-use Rattle.arena.specs.Slots.{used, gen, named, row}
+use Rattle.arena.specs.Slots.{used, named, row}
 use Rattle.value.specs.Laws.{Outside}
 use Rattle.layout.specs.declared.Sizes.{Sizes}
 use Rattle.layout.specs.declared.Lay.{Lay}

@@ -1,6 +1,5 @@
 -- What document 01 says of the chain of an arena: it holds every free slot below the fresh index once. Assumes nothing.
 use Rattle.std.specs.Prelude.{◌≡◌, ◌↔◌}
-use mathlib.Core.List.Memᴰ
 use mathlib.Core.List.{List, Memᴰ}
 use Prim.Native.Nat.{ℕ, ◌<◌}
 use Rattle.arena.specs.Slots.{colour, head, fresh}

@@ -4,7 +4,7 @@
 --     all_white, arenas          what it asks for
 --     kept_four                  what is kept: global, registry and both names
 --     freed_strings, freed_tables, freed_upvalues     the slots freed
-use Rattle.std.specs.Prelude.{◌≡◌, refl, Bool, true, false, cond, ◌⊎◌, ◌≢◌, ℕ, zero, suc, ◌+◌, ◌≤◌, ◌<◌, length}
+use Rattle.std.specs.Prelude.{◌≡◌, refl, Bool, true, false, cond, ◌≢◌, ℕ, zero, suc, ◌+◌, ◌≤◌, ◌<◌}
 use Rattle.std.proofs.Common.{sym, ap, subst, ◌∙◌, true≢false, inl, inr, ⊎_elim, arith, eqb-true}
 use mathlib.Core.List.Memᴰ
 use mathlib.Core.List.{List, [], ◌∷◌, Memᴰ}
@@ -244,15 +244,3 @@ freed_strings = frees 0 0 0 (omega arith) (λ i t. absurd (never i t (ℕ_discre
         let e : i ≡ 1 = omega (arith, d, h, slots_are 0) in
         (subst (λ j. ToFree l words bytes (slot_at l words 0 j)) e t).1
         (kept_slot 0 1 (ap (nth 0 1) gens) (Memᴰ.tail (Memᴰ.tail (Memᴰ.tail (Memᴰ.head refl)))) (subst (λ j. Occupied l words (slot_at l words 0 j)) e t.0))
-
--- So the slots freed are these, and the chains lead through them.
-pub freed : (collection.arenas 0 (omega arith)).gone ∷ (collection.arenas 1 (omega arith)).gone ∷ (collection.arenas 3 (omega arith)).gone ∷ [] ≡ [] ∷ (2 ∷ []) ∷ down 81 0 ∷ []
-unfolding down
-freed =
-    ap (λ (xs : List ℕ). xs ∷ (collection.arenas 1 (omega arith)).gone ∷ (collection.arenas 3 (omega arith)).gone ∷ []) freed_strings
-    ∙ ap (λ (xs : List ℕ). [] ∷ xs ∷ (collection.arenas 3 (omega arith)).gone ∷ []) freed_tables
-    ∙ ap (λ (xs : List ℕ). [] ∷ (2 ∷ []) ∷ xs ∷ []) freed_upvalues
-
-pub many : length (down 81 0) ≡ 81
-unfolding down
-many = refl

@@ -9,7 +9,6 @@ use Rattle.arena.specs.Slots.{gen, head, fresh, count, tallied, occupied}
 use Rattle.value.specs.Values.{value_of}
 use Rattle.value.specs.Handles.{handle_of}
 use Rattle.layout.specs.declared.Sizes.{Sizes}
-use Rattle.layout.specs.declared.Lay.{Lay}
 use Rattle.layout.specs.Sizes.{sizes_fit}
 use Rattle.layout.specs.Layout.{lay_of}
 use Rattle.layout.specs.Places.{PHASE, WHITE, TOTAL, PEAK}

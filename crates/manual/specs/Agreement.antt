@@ -2,7 +2,6 @@
 -- clause each. Assumes nothing.
 use Rattle.std.specs.Prelude.{◌≡◌, ◌⊎◌, ◌↔◌, ℕ, ◌+◌, ◌≤◌, ◌<◌}
 use Rattle.std.proofs.Math.Bool.{true, false}
-use mathlib.Core.List.Memᴰ
 use mathlib.Core.List.{List, [], Memᴰ}
 use Rattle.value.specs.Values.{is_nil}
 use Rattle.layout.specs.declared.Lay.{Lay}

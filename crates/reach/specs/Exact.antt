@@ -1,5 +1,4 @@
 -- What the theorem on marking speaks of beside the roots: nothing, and the roots that are marked first. Assumes nothing.
-use mathlib.Core.List.Memᴰ
 use mathlib.Core.List.{List, Memᴰ}
 use Prim.Native.Nat.{ℕ}
 use Rattle.layout.specs.declared.Lay.{Lay}

@@ -1,13 +1,12 @@
 -- The tri-colour invariant on words, with links E that are still to be marked. `w` are the words before any marking, from which
 -- all links are read, `u` those after some marking. Assumes nothing.
 use Rattle.std.specs.Prelude.{◌≡◌, ◌⊎◌, ℕ, ◌≤◌}
-use mathlib.Core.List.Memᴰ
 use mathlib.Core.List.{List, Memᴰ}
 use Rattle.value.specs.declared.ThreadRef.{ThreadRef}
 use Rattle.layout.specs.declared.Lay.{Lay}
 use Rattle.lists.specs.declared.Item.{Item}
 use Rattle.lists.specs.declared.Item.TheVariants.{Thread, Main}
-use Rattle.mark.specs.Ops.{Ref, thread, gray, grayagain}
+use Rattle.mark.specs.Ops.{Ref, thread}
 use Rattle.mark.specs.Words.{colour_w}
 use Rattle.mark_laws.specs.Changes.{Marked}
 use Rattle.mark_laws.specs.Whites.{Listed}

@@ -5,7 +5,6 @@
 --     weak_whole, again_whole, cleared_whole     a push onto weak, one onto grayagain; grayagain emptied
 use Rattle.std.specs.Prelude.{◌≡◌, refl, true, List, ◌≢◌, ℕ, zero, suc, ◌+◌, ◌≤◌, ◌<◌, eqb, length}
 use Rattle.std.proofs.Common.{ap, subst, ◌∙◌, inl, arith, length-set, ne_eqb}
-use Rattle.base.specs.Words.{at}
 use Rattle.value.specs.declared.TableRef.{TableRef}
 use Rattle.value.specs.declared.FuncRef.{FuncRef}
 use Rattle.value.specs.declared.ThreadRef.{ThreadRef}

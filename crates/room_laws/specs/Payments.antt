@@ -5,7 +5,6 @@ use Rattle.std.specs.Prelude.{◌≡◌, List, ℕ, ◌+◌, ◌≤◌, eqb, len
 use Rattle.base.specs.Words.{at}
 use Rattle.layout.specs.declared.Lay.{Lay}
 use Rattle.lists.specs.Lists.{damage}
-use Rattle.mark.specs.Ops.{gray, weak}
 use Rattle.mark_laws.specs.Items.{one}
 use Rattle.room_laws.specs.Tallies.{Tally, tally, Paid}
 

@@ -44,7 +44,7 @@ use Rattle.sweep_laws.specs.Places.{Rows}
 use Rattle.state_laws.specs.State.{State, call_state}
 use Rattle.state_laws.specs.Plains.{lt_both, le_both, cond_both, fields, Plainly, plainly_none, plainly_two, past_put, past_two, past_handle, past_value, plain_state, plain_text}
 use Rattle.state_laws.specs.Takes.{Begun}
-use Rattle.state_laws.proofs.Takes.{new_state, on_new_lem}
+use Rattle.state_laws.proofs.Begins.{new_state, on_new_lem}
 use Rattle.state_laws.specs.Barriers.{found_state}
 use Rattle.state_call_laws.proofs.Protos.{proto_state}
 use Rattle.state_call_laws.proofs.Closures.{new_closure_lem}

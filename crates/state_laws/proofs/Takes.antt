@@ -1,16 +1,14 @@
 -- A slot taken in the current white keeps the state, and is never refused for damage. Assumes nothing.
 --     made_calm, take_count, worth_more     a slot taken: one more is counted, and worth its size
---     new_state         what all calls that make an object begin with
---     on_new_lem        a kind then writes its record
+--     begun_state       its record is cleared, and its size is in the total
 use Rattle.std.specs.Prelude.{◌≡◌, Bool, ◌⊎◌, ◌≢◌}
 use Rattle.std.proofs.Math.Path.{refl, sym, subst}
-use Rattle.std.proofs.Common.{ap, ◌∙◌, true≢false, inl, inr, arith, ne_eqb, lt-ltb}
+use Rattle.std.proofs.Common.{ap, ◌∙◌, inl, inr, arith, ne_eqb}
 use Rattle.std.proofs.Math.Bool.{false}
 use Rattle.std.proofs.Math.Logic.{⊎_elim}
 use mathlib.Core.List.{List, Memᴰ}
 use Prim.Native.Nat.{ℕ, zero, suc, min, max, ◌+◌, ◌*◌, ◌≤◌, ◌<◌}
 use Rattle.std.proofs.Math.Decide.{dec_lt, ℕ_discrete}
-use Rattle.std.proofs.Math.Dec.{ltb}
 use Rattle.std.proofs.Math.Seq.{get_or-set_same, get_or-set_other}
 use Rattle.base.specs.Ways.{le_yes, le_no}
 use Rattle.base.specs.Words.{at, put, clear, more}
@@ -23,15 +21,12 @@ use Rattle.arena_laws.specs.Words.{clear_out}
 use Rattle.arena_laws.specs.Changes.{popped_is, opened_is}
 use Rattle.arena_laws.specs.Keeps.{occupied_most}
 use Rattle.arena_laws.specs.Frames.{Untouched, kept_fresh, kept_colour, frame_keeps}
-use Rattle.arena_laws.specs.Takes.{Made, Takes, pops, opens, fills, take_cases, take-answers}
+use Rattle.arena_laws.specs.Takes.{Made, Takes, pops, opens, fills, take_cases}
 use Rattle.layout.specs.declared.Lay.{Lay}
 use Rattle.layout.specs.Places.{PROTOTYPES, DAMAGE, WHITE, TOTAL, PEAK, INTERRUPTED}
 use Rattle.laid.specs.Laid.{Laid}
-use Rattle.counters.specs.Count.{counters_at, would_pass, track}
-use Rattle.making.specs.declared.New.{New}
-use Rattle.making.specs.declared.New.TheVariants.{At, Refused}
-use Rattle.making.specs.declared.Made as making
-use Rattle.making.specs.Making.{begun, on_took, new_object, on_new}
+use Rattle.counters.specs.Count.{track}
+use Rattle.making.specs.Making.{begun}
 use Rattle.record.specs.Fields.{body_at}
 use Rattle.mark.specs.Ops.{Work, gray, grayagain, weak}
 use Rattle.mark.specs.Words.{arena_of, list_of}
@@ -40,9 +35,9 @@ use Rattle.room_laws.specs.Counts.{is_gray, is_dark, dark_not}
 use Rattle.room_laws.specs.Frames.{OnList, Quiet, quiet_paid}
 use Rattle.sweep_laws.specs.Places.{Rows, six_room, top_is, body_past, low_outside, header_outside, cells_outside}
 use Rattle.state_laws.specs.State.{worth, Parted, State, state_parted, Fixed, size, mark, queue, Calm, mains_same, nested_same, lists_same, calm_state}
-use Rattle.state_laws.specs.Plains.{cond_both, pacing, Nearly, nearly_then, Plainly, plainly_none, plainly_put, past_clear, nearly_calm, aside_near}
+use Rattle.state_laws.specs.Plains.{pacing, Nearly, nearly_then, Plainly, plainly_none, plainly_put, past_clear, nearly_calm, aside_near}
 use Rattle.state_laws.specs.Plains as plains
-use Rattle.state_laws.specs.Takes.{kind_size, Begun}
+use Rattle.state_laws.specs.Takes.{kind_size}
 
 -- An unknown colour is free: dark and gray are told from the colour as it is read.
 read_dark : (c : ℕ) → is_dark (known c) ≡ is_dark c
@@ -202,7 +197,7 @@ module _ (l : Lay) (ok : Laid l) (a : Apart l) (r : Rows l) where
   worth_more (suc (suc (suc (suc (suc zero))))) d g w u e f = omega (arith, e, f 0 (omega arith) (omega arith), f 1 (omega arith) (omega arith), f 2 (omega arith) (omega arith), f 3 (omega arith) (omega arith), f 4 (omega arith) (omega arith))
   worth_more (suc (suc (suc (suc (suc (suc k)))))) d g w u e f = absurd (let z : ⊥ = omega (arith, g) in z)
 
-  body : Parted l → (k i : ℕ) → k ≤ 5 → l.stack.base ≤ body_at (arena_of l k) i
+  pub body : Parted l → (k i : ℕ) → k ≤ 5 → l.stack.base ≤ body_at (arena_of l k) i
   body q k i g = more l.stack.base (arena_of l k).bodies (i * (arena_of l k).stride) (q.bodies k g)
     where
       more : (x y z : ℕ) → x ≤ y → x ≤ y + z
@@ -217,7 +212,7 @@ module _ (l : Lay) (ok : Laid l) (a : Apart l) (r : Rows l) where
     abbrev c : List ℕ
     c = clear (body_at (arena_of l k) i) n (take_slot (arena_of l k) (at w WHITE) n w).1
 
-    begun_state : State l (heap (begun (arena_of l k) (kind_size k) n i u) b)
+    pub begun_state : State l (heap (begun (arena_of l k) (kind_size k) n i u) b)
     unfolding track
     begun_state =
         let p : Plainly l u c = past_clear l ok a (body_at (arena_of l k) i) n (body (state_parted s) k i g) plainly_none in
@@ -270,26 +265,3 @@ module _ (l : Lay) (ok : Laid l) (a : Apart l) (r : Rows l) where
 
         worthy : (x y z t d : ℕ) → x ≡ y + d → y ≡ z → z + 1 * d ≡ t → x ≡ t
         worthy x y z t d e f g = omega (arith, e, f, g)
-
-  pub new_state : (k : ℕ) → k ≤ 5 → (n : ℕ) {w b : List ℕ} → State l (heap w b) → Begun l ok a r b (new_object (arena_of l k) (kind_size k) n w)
-  unfolding new_object
-  new_state k g n {w} {b} s =
-      cond_both (Begun l ok a r b) (would_pass (counters_at w) (kind_size k)) _ _ (λ e. s)
-      (λ e. ⊎_elim
-      (λ q. subst (λ (t : Took). Begun l ok a r b (on_took (arena_of l k) (kind_size k) n (t, (take_slot (arena_of l k) (at w WHITE) n w).1))) (sym q.2)
-      (begun_state k g n q.0 q.1 s q.2 q.3 (fits (at w TOTAL + kind_size k) e), body (state_parted s) k q.0 g))
-      (λ q. subst (λ (t : Took × List ℕ). Begun l ok a r b (on_took (arena_of l k) (kind_size k) n t)) (sym q.0) s)
-      (take-answers (arena_of l k) (at w WHITE) n w (six_room l ok a r w s.long k g) (s.arenas k g) s.low (omega (arith, s.high))))
-    where
-      fits : (x : ℕ) → ltb 2147483647 (min x 4294967295) ≡ false → x ≤ 2147483647
-      fits x e = go (dec_lt 2147483647 (min x 4294967295))
-        where
-          go : Dec (2147483647 < min x 4294967295) → x ≤ 2147483647
-          go (yes h) = absurd (true≢false (sym (lt-ltb 2147483647 (min x 4294967295) h) ∙ e))
-          go (no h) = omega (arith, h)
-
-  -- Each kind writes its record.
-  pub on_new_lem : (f : ℕ → ℕ → ℕ → List ℕ → making.Made × List ℕ) (b : List ℕ) (x : New × List ℕ) → Begun l ok a r b x
-      → ((i g p : ℕ) (u : List ℕ) → l.stack.base ≤ p → State l (heap u b) → State l (heap (f i g p u).1 b)) → State l (heap (on_new f x).1 b)
-  on_new_lem f b (At i g p, u) s write = write i g p u s.1 s.0
-  on_new_lem f b (Refused k, u) s write = s
