@@ -1,10 +1,10 @@
 -- After separation the gray userdata are exactly the due ones. `w` are the words before the collection, `u` those in which all
 -- that the roots reach is marked and nothing is gray, `v` those after separation. Assumes nothing.
---     due-parts, due-whole       what it means that a slot is due
---     due-handle, handle-due     a slot that separation finds due, and a userdata that is due
---     shade-apart                a handle is due's and gray, or it has its colour
---     links-back, occupied-back, reach-back     links, occupied slots and what is reached are the same in w and v
---     separated-ok               the tri-colour invariant after separation
+--     due_parts, due_whole       what it means that a slot is due
+--     due_handle, handle_due     a slot that separation finds due, and a userdata that is due
+--     shade_apart                a handle is due's and gray, or it has its colour
+--     links_back, occupied_back, reach_back     links, occupied slots and what is reached are the same in w and v
+--     separated_ok               the tri-colour invariant after separation
 use Rattle.std.specs.Prelude.{◌≡◌, refl, Bool, true, false, cond, ◌⊎◌, ◌↔◌, ℕ, min, ◌+◌, ◌≤◌, ◌<◌, eqb, ltb, length}
 use Rattle.std.proofs.Common.{sym, ap, subst, ◌∙◌, true≢false, inl, inr, ⊎_elim, arith, eqb-true}
 use mathlib.Core.List.Memᴰ

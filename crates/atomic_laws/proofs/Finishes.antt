@@ -1,7 +1,7 @@
 -- The due and what they reach are marked: then what is marked is exactly what a root or a due userdata reaches. `w` are the words
 -- before the collection, `u` those in which all that the roots reach is marked and nothing is gray. Assumes nothing.
---     queued-ok                 the queue is followed, item by item
---     finished-ok, finished-exact      separation, the queue, all gray: marked is kept
+--     queued_ok                 the queue is followed, item by item
+--     finished_ok, finished_exact      separation, the queue, all gray: marked is kept
 use Rattle.std.proofs.Math.Path.{◌≡◌, sym, ap, subst}
 use Rattle.std.specs.Prelude.{refl, ◌⊎◌, ◌↔◌, ℕ, min, ◌+◌, ◌≤◌, ◌<◌, length}
 use Rattle.std.proofs.Common.{◌∙◌, arith}

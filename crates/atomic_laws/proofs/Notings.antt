@@ -1,8 +1,8 @@
 -- The weak list through a collection: from Pause to the flip. `w` are the words before the collection. Assumes nothing.
---     rooted-noted, advances-noted, marked-noted     the roots, any number of steps, the first part of the atomic phase
+--     rooted_noted, advances_noted, marked_noted     the roots, any number of steps, the first part of the atomic phase
 --     weak-back                 modes are the same before the collection and after separation
---     finished-noted            separation and what the due reach
---     weak-kept, kept-weak      the tables on the weak list are exactly the weak ones that are kept
+--     finished_noted            separation and what the due reach
+--     weak_kept, kept_weak      the tables on the weak list are exactly the weak ones that are kept
 use Rattle.std.specs.Prelude.{◌≡◌, refl}
 use Rattle.std.proofs.Math.Path.{sym, subst}
 use Rattle.std.proofs.Common.{ap, ◌∙◌, inl, inr, ⊎_elim, arith}

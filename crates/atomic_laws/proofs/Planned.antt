@@ -1,8 +1,8 @@
 -- The theorems for the layout of any sizes within their ranges: what they ask of a layout then holds, and premises on the words
 -- are all that is left. Assumes nothing.
---     planned-whole       a collection up to the end of the atomic phase leaves the damage mark
---     planned-marked      marked is reached
---     planned-exact       after the atomic phase the old white is exactly what is to be freed
+--     planned_whole       a collection up to the end of the atomic phase leaves the damage mark
+--     planned_marked      marked is reached
+--     planned_exact       after the atomic phase the old white is exactly what is to be freed
 use Rattle.std.specs.Prelude.{◌≡◌, List, ◌⊎◌, ◌↔◌, ◌≢◌, ℕ, ◌≤◌, length}
 use Rattle.base.specs.Words.{at}
 use Rattle.layout.specs.declared.Sizes.{Sizes}

@@ -1,9 +1,9 @@
 -- What the atomic phase leaves in the old white: exactly what is to be freed. From a heap at Pause with every occupied slot in
 -- the current white and an empty queue; the roots are marked, any number of steps are made, then the atomic phase. Assumes nothing.
---     header-shade, low-shade, flipped-shade, begun-shade     what the flip, the clearing and the end leave of the colours
---     white-or                  before the flip an occupied slot is marked, or in the current white
---     held-spared, spared-held  the strings that take the new white are exactly the spared ones
---     atomic-exact              after the atomic phase an occupied slot is not in the old white exactly if it is kept or spared
+--     header_shade, low_shade, flipped_shade, begun_shade     what the flip, the clearing and the end leave of the colours
+--     white_or                  before the flip an occupied slot is marked, or in the current white
+--     held_spared, spared_held  the strings that take the new white are exactly the spared ones
+--     atomic_exact              after the atomic phase an occupied slot is not in the old white exactly if it is kept or spared
 use Rattle.std.specs.Prelude.{◌≡◌, refl, ◌⊎◌, ◌↔◌, ◌≢◌, ℕ, zero, suc, ◌+◌, ◌-◌, ◌*◌, ◌≤◌, ◌<◌, length}
 use Rattle.std.proofs.Common.{sym, ap, subst, ◌∙◌, inl, inr, ⊎_elim, arith, length-set}
 use mathlib.Core.List.{List, [], Memᴰ}

@@ -1,9 +1,9 @@
 -- What separation writes lies apart from all that links are read from. Assumes nothing.
 --     Bodies, bodies            the bodies of userdata lie apart from the other records; the layout of any sizes has it
---     body_end, body-next       a body ends within the bodies, and before the next begins
---     shade-held, named-held    the handles of all kinds but userdata
---     Flags, flags-reads        words past the boundary that differ at most in finalized marks; links are the same
---     marked-reads              marking leaves all that is read
+--     body_end, body_next       a body ends within the bodies, and before the next begins
+--     shade_held, named_held    the handles of all kinds but userdata
+--     Flags, flags_reads        words past the boundary that differ at most in finalized marks; links are the same
+--     marked_reads              marking leaves all that is read
 use Rattle.std.specs.Prelude.{◌≡◌, List, ◌≢◌, ℕ, zero, suc, ◌+◌, ◌*◌, ◌≤◌, ◌<◌}
 use Rattle.std.proofs.Common.{sym, ap, ◌∙◌, inl, inr, mul_comm, arith}
 use Rattle.std.proofs.Math.Decide.{dec_lt}

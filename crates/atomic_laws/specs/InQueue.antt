@@ -1,9 +1,9 @@
 -- What is queued: a userdata put into the queue by its creation number is there, and so is what was there before, and no more.
 -- Assumes nothing.
---     Shifted, shifted-does     items moved up by one, from a place on
---     queued-new, queued-old, queued-was     the new item, those before, and no other
---     queued-place              where each stands
---     queued-outside            nothing changes outside the queue
+--     Shifted, shifted_does     items moved up by one, from a place on
+--     queued_new, queued_old, queued_was     the new item, those before, and no other
+--     queued_place              where each stands
+--     queued_outside            nothing changes outside the queue
 use Rattle.std.specs.Prelude.{◌≡◌, Bool, cond, ◌⊎◌, ◌≢◌, length}
 use Rattle.std.proofs.Math.Path.{refl, sym}
 use Rattle.std.proofs.Common.{ap, subst, ◌∙◌, inl, inr, arith}

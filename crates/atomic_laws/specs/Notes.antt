@@ -1,10 +1,10 @@
 -- The weak list: of the tables that are black exactly those that are weak are listed. `w` are the words from which modes are
 -- read, `u` those after some marking. Assumes nothing.
 --     Noted                     what is on the weak list is a weak table that is marked; a black weak table is on it
---     frame-noted, paint-noted, marks-noted     a change that leaves weak and the tables' colours; a slot that is no table
+--     frame_noted, paint_noted, marks_noted     a change that leaves weak and the tables' colours; a slot that is no table
 --                               painted; a list of links marked
---     table-noted               a table traversed: listed if it is weak
---     one-noted, for-noted      steps of propagation
+--     table_noted               a table traversed: listed if it is weak
+--     one_noted, for_noted      steps of propagation
 use Rattle.std.specs.Prelude.{◌≡◌, Bool, cond, ◌⊎◌, ◌≢◌, eqb, length}
 use Rattle.std.proofs.Math.Path.{refl, ap}
 use Rattle.std.proofs.Common.{sym, subst, ◌∙◌, true≢false, inl, inr, ⊎_elim, arith}

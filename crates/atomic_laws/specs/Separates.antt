@@ -1,9 +1,9 @@
 -- Separation from an empty queue, slot by slot: exactly the due userdata are gray, finalized and queued, and nothing else that
 -- links are read from changes. `w` are the words before it, `c` is the current white. Assumes nothing.
 --     Sorted               what holds after k slots
---     due-same             whether a slot that is still to come is due does not change
+--     due_same             whether a slot that is still to come is due does not change
 --     enqueued, passed     a slot that is due, and one that is not
---     separated-sorted     the whole
+--     separated_sorted     the whole
 use Rattle.std.specs.Prelude.{◌≡◌, Bool, true, cond, List, ◌⊎◌, ◌≢◌, ltb, length}
 use Rattle.std.proofs.Math.Path.{refl, ap}
 use Rattle.std.proofs.Common.{sym, subst, ◌∙◌, true≢false, inl, inr, ⊎_elim, arith, length-set, get_or-set_same, get_or-set_other}

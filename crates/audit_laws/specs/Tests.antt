@@ -1,8 +1,8 @@
 -- What a test means: that it says yes exactly if something holds. Assumes nothing.
---     means-as       what it means, said otherwise
---     and-means      two tests, both of which are to say yes
---     cond-means     one test or another, by a third
---     each-means     a test of each number below n
+--     means_as       what it means, said otherwise
+--     and_means      two tests, both of which are to say yes
+--     cond_means     one test or another, by a third
+--     each_means     a test of each number below n
 use Rattle.std.specs.Prelude.{◌≡◌, refl, Bool, true, false, cond, ◌&&◌, ◌↔◌, ℕ, zero, suc, ◌+◌, ◌≤◌, ◌<◌}
 use Rattle.std.proofs.Common.{sym, true≢false, arith}
 use Rattle.making.specs.Turns.{turns, each_turn, each, each_holds}

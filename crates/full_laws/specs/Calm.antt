@@ -1,7 +1,7 @@
 -- Words that differ at most in the phase, the cursor, the words of pacing and the lists gray, grayagain and weak: what is reached, due,
 -- kept and spared is the same, and so are the arenas. Assumes nothing.
---     Far, Calm, calm_put, calm-lists     such a change; a store of such a word, and the lists emptied
---     calm-alike, calm-based              a collection from there is one from the words before
+--     Far, Calm, calm_put, calm_lists     such a change; a store of such a word, and the lists emptied
+--     calm_alike, calm_based              a collection from there is one from the words before
 use Rattle.std.specs.Prelude.{◌≡◌, refl, ◌⊎◌, ◌≢◌, List, ℕ, zero, suc, min, ◌+◌, ◌*◌, ◌≤◌, ◌<◌}
 use Rattle.std.proofs.Common.{sym, subst, ap, ◌∙◌, inl, inr, ⊎_elim, arith, length-set, get_or-set_other}
 use Rattle.std.proofs.Math.ListN.{length}

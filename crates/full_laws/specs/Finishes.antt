@@ -1,7 +1,7 @@
 -- A finish of a single, budgeted or automatic step is a change of words of pacing, perhaps with a budgeted step behind it: so a sequence of
 -- steps with finishes in between is one of those that come to Pause. Assumes nothing.
---     Stored, stored-put       words of pacing that were written
---     finish-stores            what a finish does
+--     Stored, stored_put       words of pacing that were written
+--     finish_stores            what a finish does
 use Rattle.std.specs.Prelude.{◌≡◌, refl, Bool, true, false, cond, ◌⊎◌, ◌≢◌}
 use Rattle.std.proofs.Common.{sym, ap, ◌∙◌, inl, inr, arith}
 use Rattle.std.proofs.Math.Path.{subst}

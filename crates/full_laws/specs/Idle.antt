@@ -1,7 +1,7 @@
 -- A sweep in which nothing is dead leaves the heap, but the phase, the cursor and the words of pacing. Assumes nothing.
---     visit-idle, sweep-idle     one slot, and a batch
---     arena-white                an arena in which every occupied slot has the current white
---     step-idle                  a single step of such a sweep
+--     visit_idle, sweep_idle     one slot, and a batch
+--     arena_white                an arena in which every occupied slot has the current white
+--     step_idle                  a single step of such a sweep
 use Rattle.std.specs.Prelude.{◌≡◌, refl, Bool, true, false, cond, ◌⊎◌, ◌≢◌, List, ℕ, zero, suc, min, ◌+◌, ◌-◌, ◌*◌, ◌≤◌, ◌<◌, ltb, length}
 use Rattle.std.proofs.Math.Path.{sym, subst, ap}
 use Rattle.std.proofs.Common.{◌∙◌, inl, inr, ⊎_elim, arith, length-set, get_or-set_same}

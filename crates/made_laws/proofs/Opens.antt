@@ -1,8 +1,8 @@
 -- Test 1 lets every call in on a heap that the calls make: no call answers 1 or 8 on it. And its total is the sum of sizes. Assumes
 -- nothing.
---     made-opened       test 1 gives the layout of the sizes in the header
---     made-call, made-marked, made-ask     so a call is its work
---     made-total        the total is the sum of the occupied slots times their sizes
+--     made_opened       test 1 gives the layout of the sizes in the header
+--     made_call, made_marked, made_ask     so a call is its work
+--     made_total        the total is the sum of the occupied slots times their sizes
 use Rattle.std.specs.Prelude.{◌≡◌, Bool, true, false, cond, ◌&&◌, List, [], ◌∷◌, ℕ, ◌+◌, ◌*◌, ◌≤◌, eqb, length}
 use Rattle.std.proofs.Math.Path.{refl, subst}
 use Rattle.std.proofs.Common.{sym, ap, ◌∙◌, true≢false, ⊎_elim, arith, le-leb, eq-eqb}

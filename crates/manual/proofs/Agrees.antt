@@ -1,9 +1,9 @@
 -- What the manual calls accessible is what the roots reach along followed links. Assumes nothing.
---     mode-is, mode_of                 the mode of a table and the bytes of its `__mode`
---     weak-keys, weak-values           the manual's weak tables are those of document 01
---     strong-out, strong-in            strong references are the followed links
---     accessible-exact                 accessible is reached
---     finalize-exact, retained-exact   what is put on the list of those to finalize is due; what is not collected is kept
+--     mode_is, mode_of                 the mode of a table and the bytes of its `__mode`
+--     weak_keys, weak_values           the manual's weak tables are those of document 01
+--     strong_out, strong_in            strong references are the followed links
+--     accessible_exact                 accessible is reached
+--     finalize_exact, retained_exact   what is put on the list of those to finalize is due; what is not collected is kept
 use Rattle.std.specs.Prelude.{◌≡◌, Bool, false, cond, ◌⊎◌, ◌↔◌, ℕ, ◌<◌, eqb}
 use Rattle.std.proofs.Math.Path.{refl, ap}
 use Rattle.std.proofs.Common.{sym, subst, ◌∙◌, true≢false, arith, eqb-true, eq-eqb}

@@ -1,6 +1,6 @@
 -- The references of the instance, place by place, are the lists of document 01's 'Followed links'. Assumes nothing.
---     links-out, links-in       an object refers to a followed link, by its record or, a table, by an entry; and the other way round
---     rooted-out, rooted-in     what a program has at hand are the roots
+--     links_out, links_in       an object refers to a followed link, by its record or, a table, by an entry; and the other way round
+--     rooted_out, rooted_in     what a program has at hand are the roots
 use Rattle.std.specs.Prelude.{◌≡◌, Bool, cond, ◌⊎◌, ℕ, zero, suc, ◌+◌, ◌≤◌, ◌<◌}
 use Rattle.std.proofs.Math.Path.{refl, sym, subst}
 use Rattle.std.proofs.Common.{ap, ◌∙◌, arith}

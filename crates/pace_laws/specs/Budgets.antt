@@ -1,8 +1,8 @@
 -- A collection by any mixture of single, budgeted and automatic steps: budgets alter nothing of what is freed. A budgeted step makes
 -- single steps, and writes words of pacing in between; it may run on into Finalize and to Pause. Assumes nothing.
 --     Call, called, calls     the steps, and a list of them until one has ended the sweep
---     Rules, budgeted-keeps, called-keeps, chosen     what each keeps, for any predicates that single steps and stores keep
---     calls-freed, planned-calls     demand 3; for the layout of any sizes
+--     Rules, budgeted_keeps, called_keeps, chosen     what each keeps, for any predicates that single steps and stores keep
+--     calls_freed, planned_calls     demand 3; for the layout of any sizes
 use Rattle.std.specs.Prelude.{◌≡◌, ◌⊎◌, ◌≢◌, length}
 use Rattle.std.proofs.Math.Path.{refl, subst}
 use Rattle.std.proofs.Common.{sym, ◌∙◌, get_or-set_other}

@@ -1,8 +1,8 @@
 -- How many single steps a collection has left at most, 80 for each: what is counted falls with each step and is the same whatever stands
 -- in the words of pacing. Assumes nothing.
 --     Left, Lasts      what is left, t beside; of a collection under way
---     step-lasts       a single step leaves one less
---     store-lasts      words of pacing may change
+--     step_lasts       a single step leaves one less
+--     store_lasts      words of pacing may change
 use Rattle.std.specs.Prelude.{◌≡◌, refl, Bool, cond, ◌⊎◌, ◌≢◌, List, ℕ, zero, suc, min, ◌+◌, ◌*◌, ◌≤◌, ◌<◌, length}
 use Rattle.std.proofs.Common.{sym, subst, ap, ◌∙◌, inl, inr, ⊎_elim, arith, length-set, get_or-set_other}
 use Rattle.std.proofs.Math.Decide.{ℕ_discrete, dec_lt}

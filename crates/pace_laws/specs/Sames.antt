@@ -1,7 +1,7 @@
 -- Two sequences of calls from one heap, with other budgets and in another order, give the same outcome. Assumes nothing.
---     falling-same           a falling list is known by what it holds
---     Alike, outcome-alike   one arena of two heaps, and that two outcomes from one heap have it so
---     planned-same           two sequences of calls
+--     falling_same           a falling list is known by what it holds
+--     Alike, outcome_alike   one arena of two heaps, and that two outcomes from one heap have it so
+--     planned_same           two sequences of calls
 use Rattle.std.specs.Prelude.{◌≡◌, refl, ◌⊎◌, ◌≢◌, ◌↔◌, ℕ, ◌+◌, ◌*◌, ◌≤◌, ◌<◌, length}
 use Rattle.std.proofs.Common.{sym, subst, ap, ◌∙◌, inl, inr, ⊎_elim, arith}
 use mathlib.Core.List.Memᴰ

@@ -1,10 +1,10 @@
 -- The traversals, and so propagation, keep the tri-colour invariant. `w` are the words before any marking, from which all
 -- links are read. Assumes nothing.
---     lists-ok, weak-ok, again-ok     a change of weak or grayagain keeps it
---     weaken-ok, give-ok              fewer that are gray and not listed; more that are to be marked
---     follow-ok                       a marked slot is painted black, and its links are to be marked
---     table-ok, closure-ok, thread-ok, main-ok      the traversals
---     pop_ok, one_ok, for-ok          an item taken off gray; a step, and any number of steps
+--     lists_ok, weak_ok, again_ok     a change of weak or grayagain keeps it
+--     weaken_ok, give_ok              fewer that are gray and not listed; more that are to be marked
+--     follow_ok                       a marked slot is painted black, and its links are to be marked
+--     table_ok, closure_ok, thread_ok, main_ok      the traversals
+--     pop_ok, one_ok, for_ok          an item taken off gray; a step, and any number of steps
 use Rattle.std.specs.Prelude.{◌≡◌, Bool, cond, ◌⊎◌, ◌≢◌, eqb, length}
 use Rattle.std.proofs.Math.Path.{refl}
 use Rattle.std.proofs.Common.{sym, ap, subst, ◌∙◌, inl, inr, ⊎_elim, arith}

@@ -1,7 +1,7 @@
 -- Which items stand on a working list, after a push, a pop and a change elsewhere. Assumes nothing.
 --     On, on_same, on_none             an item stands on a list; it does where the list's words stay; on an empty list none does
---     push-new, push-old, push-was     a push within the room: the new item, those before, and no other
---     pop-old, pop-was                 a pop: those that are left were there, and no other went but the last
+--     push_new, push_old, push_was     a push within the room: the new item, those before, and no other
+--     pop_old, pop_was                 a pop: those that are left were there, and no other went but the last
 use Rattle.std.specs.Prelude.{◌≡◌, refl, List as Words, ◌⊎◌, ◌≢◌, ℕ, min, ◌+◌, ◌-◌, ◌≤◌, ◌<◌}
 use Rattle.std.proofs.Common.{sym, ap, subst, ◌∙◌, inl, inr, arith}
 use Rattle.std.proofs.Math.Decide.{dec_lt}

@@ -1,9 +1,9 @@
 -- The colours of all handles after one slot is painted, and after a change of the lists. Assumes nothing.
---     ref-same                 two handles of one kind, index and generation are one
---     paint-any, paint-upd     a slot that is painted has the colour, all other handles have theirs as before
---     shade-alike, shade-stays     where the colours' words stay every handle has its colour
---     push-shade, pop-shade, cleared-shade     so it has after a push, a pop or a clearing
---     ref_of, item_back, item-ref     the handle that an item stands for; it is the one that the item was listed for
+--     ref_same                 two handles of one kind, index and generation are one
+--     paint_any, paint_upd     a slot that is painted has the colour, all other handles have theirs as before
+--     shade_alike, shade_stays     where the colours' words stay every handle has its colour
+--     push_shade, pop_shade, cleared_shade     so it has after a push, a pop or a clearing
+--     ref_of, item_back, item_ref     the handle that an item stands for; it is the one that the item was listed for
 use Rattle.std.specs.Prelude.{◌≡◌, refl, List, ◌⊎◌, ◌≢◌, ℕ, zero, suc, ◌+◌, ◌≤◌, ◌<◌, length}
 use Rattle.std.proofs.Common.{sym, ap, ◌∙◌, inl, inr, arith, get_or-set_same, get_or-set_other}
 use Rattle.std.proofs.Math.Decide.{dec_lt, ℕ_discrete}

@@ -1,6 +1,6 @@
 -- The atomic phase stays within the rooms. Assumes nothing.
---     atomic-whole          from lists that are paid for and an empty queue the damage mark is as it was
---     cycle-whole           so it is from marked roots, whatever was done until the atomic phase
+--     atomic_whole          from lists that are paid for and an empty queue the damage mark is as it was
+--     cycle_whole           so it is from marked roots, whatever was done until the atomic phase
 use Rattle.std.specs.Prelude.{◌≡◌, List}
 use Rattle.std.proofs.Math.Path.{ap}
 use Rattle.std.proofs.Common.{◌∙◌, arith}

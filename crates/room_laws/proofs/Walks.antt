@@ -1,10 +1,10 @@
 -- The first part of the atomic phase: the main thread, grayagain in order, then all gray. A table on grayagain may be listed
 -- weak a second time, for which weak has room. Assumes nothing.
 --     run_along               what holds at each turn of a loop, by its number
---     paid-roomy              lists that are paid for are within their rooms, with one place of weak more for each table on grayagain
---     marks-list              marking writes no list but gray
---     again-spends, again-list      an item of grayagain; the whole list
---     marked-roomy            the first part of the atomic phase stays within the rooms, and leaves the damage mark and the queue
+--     paid_roomy              lists that are paid for are within their rooms, with one place of weak more for each table on grayagain
+--     marks_list              marking writes no list but gray
+--     again_spends, again-list      an item of grayagain; the whole list
+--     marked_roomy            the first part of the atomic phase stays within the rooms, and leaves the damage mark and the queue
 use Rattle.std.specs.Prelude.{◌≡◌, Bool, cond, eqb, length}
 use Rattle.std.proofs.Math.Path.{refl, ap, subst}
 use Rattle.std.proofs.Common.{sym, ◌∙◌, inl, inr}

@@ -1,8 +1,8 @@
 -- How many words of a run pass a test, and what one store does to that. Assumes nothing.
---     is_dark, dark-marked, dark-white     gray and black; colours 3 and 4 are, the whites are not
---     count_to, count_most, count-alike    how many of the n words from p on pass; n at most; the same where each tests alike
---     count-put, count-lost               one store; at most one is lost by it
---     white-and-dark                      no word is counted as white and as dark
+--     is_dark, dark_marked, dark-white     gray and black; colours 3 and 4 are, the whites are not
+--     count_to, count_most, count_alike    how many of the n words from p on pass; n at most; the same where each tests alike
+--     count_put, count-lost               one store; at most one is lost by it
+--     white_and_dark                      no word is counted as white and as dark
 use Rattle.std.specs.Prelude.{◌≡◌, Bool, true, false, cond, List as Words, ◌≢◌, eqb, length}
 use Rattle.std.proofs.Math.Path.{refl, ap}
 use Rattle.std.proofs.Common.{sym, ◌∙◌, get_or-set_same, eq-eqb, ne_eqb, eqb-true}

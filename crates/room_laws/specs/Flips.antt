@@ -1,9 +1,9 @@
 -- The third part of the atomic phase: the white flips, the strings of listed weak tables take the new white, dead entries are
 -- cleared, the estimate and the cursor are set. Nothing is pushed, and the damage mark stays. Assumes nothing.
 --     Unmarked                  the damage mark is as it was
---     kept-mark                 keeping strings leaves the damage mark
---     Low, cleared-low          the words below the boundary; clearing entries leaves them
---     flipped-mark, begun-mark  the whole part
+--     kept_mark                 keeping strings leaves the damage mark
+--     Low, cleared_low          the words below the boundary; clearing entries leaves them
+--     flipped_mark, begun_mark  the whole part
 use Rattle.std.specs.Prelude.{◌≡◌, refl, Bool, cond, length}
 use Rattle.std.proofs.Common.{◌∙◌, inl, arith, get_or-set_other, length-set}
 use Rattle.std.proofs.Math.Bool.{true, false}

@@ -1,9 +1,9 @@
 -- Which words a tally is read from, and so what leaves it. Assumes nothing.
 --     OnList, list_same         the words of a list; where they stay, its length and its items do
 --     Other, OnlyList           two lists that are not the same; words that differ only in one list and in the damage mark
---     other-words, other-same, colours-same     the other lists, and all colours, are then as they were
---     push-only, pop-only, cleared-only     push, pop and clearing are such
---     Quiet, quiet-paid         words that differ in nothing that a tally is read from; what was paid for is
+--     other_words, other_same, colours_same     the other lists, and all colours, are then as they were
+--     push_only, pop_only, cleared_only     push, pop and clearing are such
+--     Quiet, quiet_paid         words that differ in nothing that a tally is read from; what was paid for is
 use Rattle.std.specs.Prelude.{◌≡◌, refl, List as Words, ◌⊎◌, ◌≢◌, ℕ, min, ◌+◌, ◌*◌, ◌≤◌, ◌<◌, length}
 use Rattle.std.proofs.Common.{ap, ◌∙◌, inl, inr, arith}
 use Rattle.base.specs.Words.{at}

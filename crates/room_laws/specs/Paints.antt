@@ -1,9 +1,9 @@
 -- What painting one slot does to the numbers of gray and of dark slots. Assumes nothing.
---     colours-apart             two slots of different kinds have their colours apart
+--     colours_apart             two slots of different kinds have their colours apart
 --     count_in                   the slots of one kind whose colour passes a test
---     paint-there, paint-up, paint-more, paint-down     a slot painted: no other kind's number changes; none is lost, one is
+--     paint_there, paint_up, paint_more, paint_down     a slot painted: no other kind's number changes; none is lost, one is
 --                               gained, one is lost at most
---     paint-words, paint-quiet  the lists and the damage mark stay; a kind that is not listed leaves the tally
+--     paint-words, paint_quiet  the lists and the damage mark stay; a kind that is not listed leaves the tally
 use Rattle.std.specs.Prelude.{◌≡◌, Bool, true, false, List, ◌≢◌, ℕ, zero, suc, ◌+◌, ◌≤◌, ◌<◌, length}
 use Rattle.std.proofs.Common.{sym, ap, subst, ◌∙◌, inl, inr, arith, length-set, get_or-set_other}
 use Rattle.std.proofs.Math.Decide.{dec_lt, ℕ_discrete}

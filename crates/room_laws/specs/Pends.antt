@@ -2,8 +2,8 @@
 -- If it is kept where a link is passed, where one is painted black and its links are to be marked in its place, and where
 -- one is painted gray and listed, then it is kept by marking any list. Assumes nothing.
 --     Direct, item_for        the kinds that are followed at once; the item by which one of the others is listed
---     marks-pends            the induction
---     marks-keep             the same for what does not speak of links that are still to be marked
+--     marks_pends            the induction
+--     marks_keep             the same for what does not speak of links that are still to be marked
 use Rattle.std.specs.Prelude.{◌≡◌, Bool, cond, ℕ, zero, suc, ◌≤◌, length}
 use Rattle.std.proofs.Math.Path.{refl, subst}
 use Rattle.std.proofs.Common.{sym, arith}

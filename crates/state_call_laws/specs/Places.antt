@@ -1,7 +1,7 @@
 -- What the calls that change a record share: each writes plain words alone. Assumes nothing.
---     store-plain       a value at a place
---     push-both, pop-both, set_both, height-both, pushed-both, cut-both     a stack of values, a list of upvalues, with their counts
---     thread-both, named-both      the record of what a handle names lies past the prototypes
+--     store_plain       a value at a place
+--     push_both, pop_both, set_both, height_both, pushed_both, cut_both     a stack of values, a list of upvalues, with their counts
+--     thread_both, named_both      the record of what a handle names lies past the prototypes
 use Rattle.std.proofs.Common.{sym, arith}
 use Rattle.std.proofs.Math.Path.{subst}
 use mathlib.Core.List.{List}

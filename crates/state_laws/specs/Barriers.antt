@@ -1,7 +1,7 @@
 -- Both barriers, and a string found while old white, keep the state. Assumes nothing.
 --     painted-calm      what changes colours of occupied slots, during Propagate
---     back-state, forward-state     the barriers: they act during Propagate alone, and stay within the rooms
---     found-state       a string takes the current white
+--     back_state, forward_state     the barriers: they act during Propagate alone, and stay within the rooms
+--     found_state       a string takes the current white
 use Rattle.std.specs.Prelude.{◌≡◌, refl, ◌⊎◌, ◌≢◌, List, [], ◌∷◌, ℕ, ◌+◌, ◌≤◌, ◌<◌}
 use Rattle.std.proofs.Math.Path.{sym}
 use Rattle.std.proofs.Common.{subst, ap, ◌∙◌, inl, inr, arith, length-set, get_or-set_same, get_or-set_other}

@@ -1,10 +1,10 @@
 -- Most calls write only words that neither marking nor sweeping looks at: fields of the main record and settings in the header,
 -- words of pacing, and all past the prototypes. Such a change keeps the state. Assumes nothing.
---     lt_both, le-both, eq-both, cond_both     what both ways have, a choice has
+--     lt_both, le_both, eq_both, cond_both     what both ways have, a choice has
 --     Plain, Looked, Nearly, Plainly     such words; those that are looked at; words that differ in plain ones alone
---     plainly-put, .., past-put, ..     stores
---     plain-state, plain-text     it keeps the state
---     out-state, top-state, opens-state, frame-state     so do a hand-out at Finalize, and counts within their parts
+--     plainly_put, .., past_put, ..     stores
+--     plain_state, plain_text     it keeps the state
+--     out_state, top_state, opens_state, frame_state     so do a hand-out at Finalize, and counts within their parts
 use Rattle.std.specs.Prelude.{◌≡◌, refl, Bool, true, false, cond, ◌⊎◌, ◌≢◌, ℕ, ◌+◌, ◌≤◌, ◌<◌, length}
 use Rattle.std.proofs.Common.{sym, subst, ap, ◌∙◌, inl, inr, ⊎_elim, arith, length-set, get_or-set_same, get_or-set_other}
 use mathlib.Core.List.{List}

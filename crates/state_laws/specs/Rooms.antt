@@ -1,7 +1,7 @@
 -- Marking keeps the counts of the lists within their rooms. Assumes nothing.
---     push-room, pop-room, clear_room     a push, a pop, a clearing of one list
---     only-lists        the counts of the other lists stay
---     moves-lists       all that marking does
+--     push_room, pop_room, clear_room     a push, a pop, a clearing of one list
+--     only_lists        the counts of the other lists stay
+--     moves_lists       all that marking does
 use Rattle.std.specs.Prelude.{◌≡◌, List as Words, ℕ, ◌+◌, ◌-◌, ◌*◌, ◌≤◌, ◌<◌, length}
 use Rattle.std.proofs.Common.{sym, subst, ap, ◌∙◌, inl, arith, get_or-set_other}
 use Rattle.std.proofs.Math.Decide.{dec_lt, ℕ_discrete}

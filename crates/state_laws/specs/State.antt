@@ -3,8 +3,8 @@
 --     Swept             how far the sweep has come: the slots swept are free or in the current white; at Pause and Finalize all are
 --     Lists, Mains, Sum, Nested     counts within their ranges; the total; the prototypes
 --     State             what holds of a heap with the layout l
---     Calm, calm-state  a change that a call makes to the words, and that it keeps the state
---     call-state, marked-state     a public call keeps the state where its work does
+--     Calm, calm_state  a change that a call makes to the words, and that it keeps the state
+--     call_state, marked_state     a public call keeps the state where its work does
 use Rattle.std.specs.Prelude.{◌≡◌, refl, Bool, true, false, cond, ◌⊎◌, ◌≢◌, List, ℕ, zero, suc, min, ◌+◌, ◌*◌, ◌≤◌, ◌<◌, eqb, length}
 use Rattle.std.proofs.Common.{sym, subst, ap, ◌∙◌, inl, inr, ⊎_elim, arith}
 use Rattle.base.specs.Words.{at}

@@ -1,6 +1,6 @@
 -- The six calls that step keep the state. Assumes nothing.
---     gave-free         marking that was under way is given up
---     single-keeps, step_keeps, auto-keeps, check-keeps, full-keeps, finish-keeps     the calls
+--     gave_free         marking that was under way is given up
+--     single_keeps, step_keeps, auto_keeps, check_keeps, full_keeps, finish_keeps     the calls
 use Rattle.std.specs.Prelude.{◌≡◌, Bool, ◌≢◌, ℕ, ◌+◌, ◌≤◌, ltb, ℤ, length}
 use Rattle.std.proofs.Math.Path.{refl}
 use Rattle.std.proofs.Common.{sym, ap, ◌∙◌, true≢false, ⊎_elim, arith, lt-ltb}

@@ -1,6 +1,6 @@
 -- The atomic step keeps the counts of the lists within their rooms. Assumes nothing.
---     marked-moves, second-moves     both markings of the atomic step
---     separated-lists   separation: of the counts, the queue's alone changes, and stays within its room
+--     marked_moves, second_moves     both markings of the atomic step
+--     separated_lists   separation: of the counts, the queue's alone changes, and stays within its room
 use Rattle.std.specs.Prelude.{◌≡◌, ◌≢◌, length}
 use Rattle.std.proofs.Math.Path.{refl, subst}
 use Rattle.std.proofs.Common.{sym, ◌∙◌, inl, arith, length-set, get_or-set_other}

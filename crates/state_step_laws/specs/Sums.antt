@@ -1,7 +1,7 @@
 -- What a sweep frees it takes off the count and off the total. Assumes nothing.
---     tally-gone        slots that become free, each once, count so many less
---     cleaned-count     so does the count of a well-formed arena that is swept
---     size-at           the size that a sweep step takes off for each is that of the arena's kind
+--     tally_gone        slots that become free, each once, count so many less
+--     cleaned_count     so does the count of a well-formed arena that is swept
+--     size_at_lem           the size that a sweep step takes off for each is that of the arena's kind
 use Rattle.std.specs.Prelude.{◌≡◌, refl, ◌≢◌, ℕ, zero, suc, min, ◌+◌, ◌≤◌, ◌<◌, length}
 use Rattle.std.proofs.Common.{sym, ap, ◌∙◌, inl, inr, ⊎_elim, arith}
 use mathlib.Core.List.Memᴰ

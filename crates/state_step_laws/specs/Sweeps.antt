@@ -1,7 +1,7 @@
 -- A single step of the sweep keeps the state, and goes on. Assumes nothing.
---     white-clean, clean-white     an arena that is swept below a slot: its occupied slots there have the current white
---     sweep-word, sweep-sum     words of the header that such a step leaves; the total
---     Sweeping, sweep-free     the step, and where it comes to
+--     white_clean, clean_white     an arena that is swept below a slot: its occupied slots there have the current white
+--     sweep_word, sweep_sum     words of the header that such a step leaves; the total
+--     Sweeping, sweep_free     the step, and where it comes to
 use Rattle.std.specs.Prelude.{◌≡◌, cond, ◌⊎◌, ◌≢◌, length}
 use Rattle.std.proofs.Math.Path.{refl, subst}
 use Rattle.std.proofs.Common.{sym, ap, ◌∙◌, inl, inr, arith}

@@ -1,7 +1,7 @@
 -- After a collection the heap is again as one asked for: every occupied slot has the current white, and the six arenas are
 -- well-formed. So the next collection has what it asks for, where the queue is empty at Pause. Assumes nothing.
---     outcome-white, outcome-arenas     the premises hold again
---     outcome-names                     what an occupied slot's handle names then
+--     outcome_white, outcome_arenas     the premises hold again
+--     outcome_names                     what an occupied slot's handle names then
 use Rattle.std.specs.Prelude.{◌≡◌, refl, ◌⊎◌, ◌≢◌, ◌↔◌, ℕ, ◌+◌, ◌≤◌, ◌<◌, length}
 use Rattle.std.proofs.Common.{sym, subst, ap, ◌∙◌, inl, inr, ⊎_elim, arith}
 use mathlib.Core.List.Memᴰ

@@ -1,10 +1,10 @@
 -- One arena swept in batches, each from where the one before it ended: what is freed, painted and left, as for one sweep of the
 -- whole. Between two batches words elsewhere may change. Assumes nothing.
 --     Clean            the arena after its slots below n were swept
---     clean-none       none yet
---     clean-cleaned    a batch from slot n on: the slots below it are not touched again
---     Same, clean-same     words and bytes elsewhere change
---     batches, batches-clean     any number of batches of any sizes
+--     clean_none       none yet
+--     clean_cleaned    a batch from slot n on: the slots below it are not touched again
+--     Same, clean_same     words and bytes elsewhere change
+--     batches, batches_clean     any number of batches of any sizes
 use Rattle.std.specs.Prelude.{◌≡◌, refl, ◌≢◌, ◌↔◌, ℕ, ◌+◌, ◌*◌, ◌%◌, ◌^◌, ◌≤◌, ◌<◌, length}
 use Rattle.std.proofs.Common.{sym, subst, ap, ◌∙◌, inl, inr, ⊎_elim, arith}
 use mathlib.Core.List.Memᴰ

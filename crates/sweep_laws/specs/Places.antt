@@ -1,7 +1,7 @@
 -- A sweep of one arena leaves the words and bytes of the five others. Assumes nothing.
 --     Rows, rows            the bodies of the arenas stand one after the other; the layout of any sizes has it
---     six-room              each arena has room in the words
---     arena-at              the arena at the cursor
+--     six_room              each arena has room in the words
+--     arena_at_lem              the arena at the cursor
 --     low_same, swept_same  words below 73 change; another arena is swept
 use Rattle.std.specs.Prelude.{◌≡◌, refl, List, ◌⊎◌, ◌≢◌, length}
 use Rattle.std.proofs.Math.Path.{ap}

@@ -1,9 +1,9 @@
 -- Marking and the atomic phase change of an arena nothing but colours of occupied slots, which stay occupied: so it stays
 -- well-formed, with the same chain, and every slot has its generation and extent. Assumes nothing.
---     Tint, Repainted, repainted-then     such a change; one after the other
---     repainted-keeps, repainted-free     the arena stays well-formed; a free slot stays free, and no other becomes free
---     marked-repainted, sorted-repainted, whitens-repainted, low-repainted     marking, separation, spared strings, the rest
---     atomic-repainted                    the atomic phase, and where it leaves phase, white and cursor
+--     Tint, Repainted, repainted_then     such a change; one after the other
+--     repainted_keeps, repainted_free     the arena stays well-formed; a free slot stays free, and no other becomes free
+--     marked_repainted, sorted_repainted, whitens_repainted, low_repainted     marking, separation, spared strings, the rest
+--     atomic_repainted                    the atomic phase, and where it leaves phase, white and cursor
 use Rattle.std.specs.Prelude.{◌≡◌, Bool, true, false, ◌⊎◌, ◌≢◌, ◌↔◌}
 use Rattle.std.proofs.Math.Path.{refl, ap}
 use Rattle.std.proofs.Common.{sym, subst, ◌∙◌, inl, inr, arith, length-set, get_or-set_other}

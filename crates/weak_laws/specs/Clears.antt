@@ -1,9 +1,9 @@
 -- Clearing all listed weak tables: of each table that is there and weak the values that die are nil, and nothing else changes.
 -- `H` are the words before it. Assumes nothing.
---     cut-shade, dead-same     every handle has its colour, and what is dead stays so
---     mode-same                every table has its mode: the value of a `__mode` that is a string does not die
---     array-cleared, nodes-cleared, table-cleared     one table
---     all-cleared              all that are listed
+--     cut_shade, dead_same     every handle has its colour, and what is dead stays so
+--     mode_same                every table has its mode: the value of a `__mode` that is a string does not die
+--     array_cleared, nodes_cleared, table_cleared     one table
+--     all_cleared              all that are listed
 use Rattle.std.specs.Prelude.{◌≡◌, Bool, ◌⊎◌, ◌≢◌, ltb, length}
 use Rattle.std.proofs.Math.Path.{refl, ap, subst}
 use Rattle.std.proofs.Common.{sym, ◌∙◌, true≢false, inl, inr, ⊎_elim, arith, get_or-set_same, get_or-set_other, eqb-true}

@@ -2,7 +2,7 @@
 -- old white. Assumes nothing.
 --     ArrayDies, NodeDies     an array value, and a node's, that dies: read from the words before
 --     Cut                     words in which some of these are nil, and nothing else differs
---     cut-put                 one more becomes nil
+--     cut_put                 one more becomes nil
 use Rattle.std.specs.Prelude.{◌≡◌, Bool, true, false, List, ◌⊎◌, ◌≢◌, ℕ, ◌+◌, ◌*◌, ◌≤◌, ◌<◌, length}
 use Rattle.std.proofs.Math.Path.{refl, ap}
 use Rattle.std.proofs.Common.{sym, subst, ◌∙◌, inl, inr, ⊎_elim, arith}
