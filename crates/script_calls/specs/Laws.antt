@@ -1,5 +1,5 @@
 -- The law of a command whose call serves. Assumes nothing.
-use Rattle.std.specs.Prelude.{◌≡◌, refl, List, ℕ}
+use Rattle.std.specs.Prelude.{◌≡◌, List, ℕ}
 use Rattle.base.specs.Heap.{Heap}
 use Rattle.given.specs.declared.Served.{Served}
 use Rattle.script_print.specs.declared.Outcome.{Outcome}
