@@ -1,6 +1,5 @@
 -- `proto_walk::make_closure` meets its contract: the slot that was taken is one of the functions. Assumes nothing.
 use native.Mathlib.Omega.{arith}
-use borrow.Author.Rules.{rules}
 use Rattle.laid.specs.Laid.{functions_room, sizes_laid}
 use Rattle.proto_walk.proofs.make_closure.Goals as goal
 

@@ -1,7 +1,5 @@
 -- `proto_walk::nest` meets its contract: the words are as long as the layout says, and eight numbers are put. Assumes nothing.
-use Prim.Native.Nat.{◌-◌}
 use native.Mathlib.Omega.{arith}
-use borrow.Author.Rules.{rules}
 use Rattle.run_walk.proofs.Laws.{parts_in}
 use Rattle.proto_walk.proofs.nest.Goals as goal
 

@@ -1,6 +1,4 @@
 -- `proto_walk::nest_all` meets its contract: the measure is the prototypes that are left. Assumes nothing.
-use Prim.Native.Nat.{◌-◌, ◌≤◌}
-use borrow.Author.Rules.{rules}
 use Rattle.layout.specs.Layout.{lay_of}
 use Rattle.proto_walk.proofs.nest_all.Goals as goal
 

@@ -1,6 +1,5 @@
 -- `proto_walk::push_closure` meets its contract: the closure lies within its slot. Assumes nothing.
 use native.Mathlib.Omega.{arith}
-use borrow.Author.Rules.{rules}
 use Rattle.layout.specs.Layout.{lay_of}
 use Rattle.laid.specs.Laid.{function_words, functions_room, sizes_laid}
 use Rattle.run_walk.proofs.Laws.{parts_in}

@@ -1,6 +1,5 @@
 -- `proto_walk::put_constant` meets its contract: the words are as long as the layout says. Assumes nothing.
 use native.Mathlib.Omega.{arith}
-use borrow.Author.Rules.{rules}
 use Rattle.layout.specs.Layout.{lay_of}
 use Rattle.laid.specs.Laid.{strings_room, sizes_laid}
 use Rattle.run_walk.proofs.Laws.{parts_in}

@@ -1,6 +1,5 @@
 -- `proto_walk::show` meets its contract: what was planned fits the words that it says. Assumes nothing.
 use native.Mathlib.Omega.{arith}
-use borrow.Author.Rules.{rules}
 use Rattle.laid.specs.Laid.{laid_of}
 use Rattle.proto_walk.proofs.show.Goals as goal
 

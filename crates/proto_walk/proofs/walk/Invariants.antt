@@ -1,6 +1,5 @@
 -- `proto_walk::walk` meets its contract: the measure is the steps that are left. Assumes nothing.
 use Prim.Native.Nat.{◌-◌}
-use borrow.Author.Rules.{rules}
 use Rattle.proto_walk.proofs.walk.Given as goal
 
 abbrev pub invariant-loop-n : goal.invariant-loop-n

@@ -1,7 +1,6 @@
 -- `steps_cycle::copy` meets its contract: the measure is what is left of the text. Assumes nothing.
 use Prim.Native.Nat.{◌-◌}
 use lib.ListN.{length}
-use borrow.Author.Rules.{rules}
 use Rattle.steps_cycle.proofs.copy.Given as goal
 
 abbrev pub invariant-loop-i : goal.invariant-loop-i

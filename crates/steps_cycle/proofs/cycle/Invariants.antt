@@ -1,5 +1,4 @@
 -- `steps_cycle::cycle` meets its contract: the measure is the calls that are left. Assumes nothing.
-use borrow.Author.Rules.{rules}
 use Rattle.steps_cycle.proofs.cycle.Given as goal
 
 abbrev pub invariant-loop-left : goal.invariant-loop-left

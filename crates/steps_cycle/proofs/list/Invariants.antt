@@ -1,6 +1,5 @@
 -- `steps_cycle::list` meets its contract: the measure is what is left of the list. Assumes nothing.
 use Prim.Native.Nat.{◌-◌}
-use borrow.Author.Rules.{rules}
 use Rattle.steps_cycle.proofs.list.Given as goal
 
 abbrev pub invariant-loop-i : goal.invariant-loop-i

@@ -1,7 +1,6 @@
 -- `steps_cycle::start` meets its contract: each line lies within the text, and what is left of it falls. Assumes nothing.
 use Prim.Native.Nat.{◌-◌, ◌≤◌}
 use lib.ListN.{length}
-use borrow.Author.Rules.{rules}
 use Rattle.steps_cycle.proofs.start.Given as goal
 
 abbrev pub invariant-loop-at : goal.invariant-loop-at
