@@ -1,0 +1,6 @@
+-- `thread_engine::sieddesan_thread_suspended_push` meets its contract: from what its callees promise. Assumes nothing.
+use Rattle.told.specs.Answers.{served_told}
+use Rattle.thread_engine.proofs.sieddesan_thread_suspended_push.Goals as goal
+
+pub returns : goal.returns
+returns c = served_told _ _ _ _ _ c.thread_suspended_push-a.ensures c.code.ensures
