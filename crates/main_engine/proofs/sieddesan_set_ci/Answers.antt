@@ -1,0 +1,6 @@
+-- `main_engine::sieddesan_set_ci` meets its contract: from what its callees promise. Assumes nothing.
+use Rattle.told.specs.Answers.{served_told}
+use Rattle.main_engine.proofs.sieddesan_set_ci.Goals as goal
+
+pub returns : goal.returns
+returns c = served_told _ _ _ _ _ c.set_ci-a.ensures c.code.ensures
