@@ -2,7 +2,7 @@
 --     collect_obeys, plain_obeys     a command's equation as the whole line's
 --     line_runs, printed_within      what a command printed, and then its outcome's text; within the lent bytes
 -- Assumes nothing.
-use Rattle.std.specs.Prelude.{◌≡◌, refl, List, [], ◌∷◌, ◌++◌, ℕ, ◌≤◌, length}
+use Rattle.std.specs.Prelude.{◌≡◌, List, ℕ, ◌≤◌, length}
 use Rattle.std.proofs.Common.{ap, arith}
 use Rattle.base.specs.Heap.{Heap}
 use Rattle.script_bytes.specs.Bytes.{said}

@@ -1,6 +1,6 @@
 -- A line of a script (document 01, `heapscript`): what it does to the heap and the table of made objects, and the bytes that
 -- it prints. Assumes nothing.
-use Rattle.std.specs.Prelude.{List, [], ◌∷◌, ◌++◌, ℕ, drop}
+use Rattle.std.specs.Prelude.{List, [], ◌++◌, ℕ, drop}
 use Rattle.base.specs.Heap.{Heap}
 use Rattle.value.specs.declared.UdRef.{UdRef}
 use Rattle.accounts.specs.declared.Answer.{Answer}
