@@ -1,9 +1,7 @@
 -- `heapscript::run_all` meets its contract: lengths stay, and what is gathered lies within the line. Assumes nothing.
-use native.Mathlib.Omega.{arith}
-use mathlib.Core.Path.{◌≡◌, refl, ◌∙◌}
+use mathlib.Core.Path.{◌≡◌}
 use Prim.Native.Nat.{◌≤◌}
 use lib.ListN.{length}
-use borrow.Author.Rules.{rules}
 use Rattle.heapscript.proofs.run_all.Given as goal
 
 abbrev pub invariant-loop-turns : goal.invariant-loop-turns

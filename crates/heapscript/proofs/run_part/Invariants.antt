@@ -1,6 +1,5 @@
 -- `heapscript::run_part` meets its contract: lengths stay, and what is gathered lies within the line. Assumes nothing.
-use native.Mathlib.Omega.{arith}
-use mathlib.Core.Path.{◌≡◌, refl, ◌∙◌}
+use mathlib.Core.Path.{◌≡◌}
 use Prim.Native.Nat.{◌-◌, ◌≤◌}
 use lib.ListN.{length}
 use Rattle.heapscript.proofs.run_part.Given as goal
