@@ -20,7 +20,7 @@ use Rattle.sweep_laws.specs.Places.{Rows}
 use Rattle.state_laws.specs.State.{State}
 use Rattle.state_laws.specs.Plains.{Plainly, plainly_none, past_put, past_handle, plain_state}
 use Rattle.state_laws.specs.Takes.{Begun}
-use Rattle.state_laws.proofs.Takes.{new_state}
+use Rattle.state_laws.proofs.Begins.{new_state}
 
 module _ (l : Lay) (ok : Laid l) (a : Apart l) (r : Rows l) (am : Ample l) where
   -- The head of a closure.
