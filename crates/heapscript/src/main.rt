@@ -3,7 +3,7 @@
 // newline; the last line may have none. A read or a write that fails ends the program.
 #![tactic(auto)]
 
-ghost use Rattle.std.specs.Prelude.{◌≤◌, ◌<◌, length, IfOk};
+ghost use Rattle.std.specs.Prelude.{◌≡◌, ◌≤◌, ◌<◌, length, IfOk, OnErr};
 
 use script_input::Reading;
 use std::io;
@@ -41,7 +41,8 @@ fn run_next(
     s: Reading,
 ) -> io::Result<Reading>
     requires { (s.count ≤ length line.old) × (s.at < length part.now) }
-    ensures { IfOk result (λ r. (r.count ≤ length line.old) × (s.at < r.at)) }
+    ensures ok { IfOk result (λ r. (r.count ≤ length line.old) × (s.at < r.at)) }
+    ensures err { OnErr result (length line.new ≡ length line.old) }
 {
     let g = script_input::read_on(part, line, s);
     let count = g.count;
@@ -63,7 +64,8 @@ fn run_part(
     first: Reading,
 ) -> io::Result<Reading>
     requires { first.count ≤ length line.old }
-    ensures { IfOk result (λ r. r.count ≤ length line.old) }
+    ensures ok { IfOk result (λ r. r.count ≤ length line.old) }
+    ensures err { OnErr result (length line.new ≡ length line.old) }
 {
     let mut s = first;
     while s.at < part.len() {
@@ -83,7 +85,8 @@ fn read_part(
     s: Reading,
 ) -> io::Result<Input>
     requires { s.count ≤ length line.old }
-    ensures { IfOk result (λ i. i.reading.count ≤ length line.old) }
+    ensures ok { IfOk result (λ i. i.reading.count ≤ length line.old) }
+    ensures err { OnErr result (length line.new ≡ length line.old) }
 {
     let mut part = [0u8; 65536];
     let n = input.read(&mut part)?;

@@ -2,7 +2,7 @@
 // line's end.
 #![tactic(auto)]
 
-ghost use Rattle.std.specs.Prelude.{◌≡◌, ◌≤◌, ◌<◌, length, IfOk};
+ghost use Rattle.std.specs.Prelude.{◌≡◌, ◌≤◌, ◌<◌, length, IfOk, OnErr};
 
 use std::io;
 use std::io::Read;
@@ -10,7 +10,8 @@ use std::io::Read;
 // Reads until `text` is full or the input ends, and returns how many bytes it put at the start of `text`. A read that
 // fails is returned; `text` then holds what was read before it.
 pub fn read_full(input: &mut impl Read, text: &mut [u8]) -> io::Result<usize>
-    ensures { IfOk result (λ n. n ≤ length text.new) }
+    ensures ok { IfOk result (λ n. n ≤ length text.new) }
+    ensures err { OnErr result (length text.new ≡ length text.old) }
 {
     let mut done: usize = 0;
     while done < text.len() {

@@ -5,4 +5,4 @@ use Rattle.heapscript.proofs.run_next.Goals as goal
 
 pub returns-then-g : goal.returns-then-g
 unfolding passed
-returns-then-g g c = rw c.pass.ensures (omega arith, c.read_on-g.ensures.1.forth c.requires.1)
+returns-then-g g c = record { ok = rw c.pass.ensures (omega arith, c.read_on-g.ensures.1.forth c.requires.1); err = tt }
