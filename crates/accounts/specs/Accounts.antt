@@ -1,16 +1,17 @@
 -- Document 01, 'Steps and pacing': what the header keeps of pacing, and of a finalizer that is out. Assumes nothing.
-use Rattle.std.specs.Prelude.{List, ℕ, ◌+◌, ◌-◌, max}
+use Rattle.std.specs.Prelude.{List, ℕ, ◌+◌, ◌-◌, max, Some, None, Ok, Err, Result}
 use Rattle.base.specs.Ways.{if_lt, if_le, if_eq}
 use Rattle.base.specs.Words.{at, put, get64, put64, bounded}
-use Rattle.value.specs.declared.UdOr.TheVariants.{Absent, Present}
+use Rattle.base.specs.declared.Refusal.TheVariants.{OverLimit}
+use Rattle.base.specs.declared.Refusal.{Refusal}
+use Rattle.std.specs.declared.ops.ControlFlow.TheVariants.{Continue, Break}
+use Rattle.std.specs.declared.ops.ControlFlow.{ControlFlow}
 use Rattle.value.specs.declared.UdRef.{UdRef}
 use Rattle.value.specs.Handles.{put_ud_or}
 use Rattle.layout.specs.Places.{LIMIT, PAUSE, PHASE, TOTAL, ESTIMATE, THRESHOLD, DEBT, INTERRUPTED, OUT, REMAINING, STRINGS, TABLES, FUNCTIONS, UPVALUES, USERDATA, THREADS}
 use Rattle.pacing.specs.Pacing.{grown_debt, cycle_threshold, step_threshold, debt_after, memory}
 use Rattle.accounts.specs.declared.Answer.{Answer}
-use Rattle.accounts.specs.declared.Answer.TheVariants.{Stepped, Unfinished, Ended, Passed, Handed, Busy, Failed, Refused}
-use Rattle.accounts.specs.declared.Turn.{Turn}
-use Rattle.accounts.specs.declared.Turn.TheVariants.{Left, Over}
+use Rattle.accounts.specs.declared.Answer.TheVariants.{Stepped, Unfinished, Ended, Passed, Handed, Busy, Failed}
 
 -- What the occupied slots take in all, by the stored counts.
 abbrev pub count_at : ℕ → List ℕ → ℕ
@@ -45,36 +46,36 @@ step_ends w =
 unfoldable pub handed : ℕ → UdRef → ℕ → List ℕ → List ℕ
 handed kind r left w =
     let w₁ = put INTERRUPTED kind w in
-    let w₂ = put_ud_or OUT (Present r) w₁ in
+    let w₂ = put_ud_or OUT (Some r) w₁ in
     put64 REMAINING left w₂
 
 unfoldable pub taken_back : List ℕ → List ℕ
 taken_back w =
     let w₁ = put INTERRUPTED 0 w in
-    let w₂ = put_ud_or OUT Absent w₁ in
+    let w₂ = put_ud_or OUT None w₁ in
     put64 REMAINING 0 w₂
 
 -- A budgeted step subtracts each cost and stops at 0 or below, or at Pause.
-unfoldable pub after_cost : ℕ → ℕ → List ℕ → Turn × List ℕ
+unfoldable pub after_cost : ℕ → ℕ → List ℕ → ControlFlow (Result Answer Refusal) ℕ × List ℕ
 after_cost left c w =
-    if_eq (at w PHASE) 0 (Over Ended, update_threshold w)
-    (if_le left c (Over Unfinished, step_ends w)
-    (Left (left - c), w))
+    if_eq (at w PHASE) 0 (Break (Ok Ended), update_threshold w)
+    (if_le left c (Break (Ok Unfinished), step_ends w)
+    (Continue (left - c), w))
 
 -- The debt grows by total minus threshold.
 abbrev pub grown : List ℕ → List ℕ
 grown w = put64 DEBT (grown_debt (get64 w DEBT) (at w TOTAL) (get64 w THRESHOLD)) w
 
 -- A check that ends with the total above the limit is 7.
-unfoldable pub within_limit : List ℕ → Answer
-within_limit w = if_lt (get64 w LIMIT) (at w TOTAL) (Refused 7) Passed
+unfoldable pub within_limit : List ℕ → Result Answer Refusal
+within_limit w = if_lt (get64 w LIMIT) (at w TOTAL) (Err OverLimit) (Ok Passed)
 
-unfoldable pub limited : List ℕ → Answer → Answer
-limited w (Handed r v) = Handed r v
-limited w (Stepped c) = within_limit w
-limited w Unfinished = within_limit w
-limited w Ended = within_limit w
-limited w Passed = within_limit w
-limited w Busy = within_limit w
-limited w Failed = within_limit w
-limited w (Refused n) = within_limit w
+unfoldable pub limited : List ℕ → Result Answer Refusal → Result Answer Refusal
+limited w (Ok (Handed r v)) = Ok (Handed r v)
+limited w (Ok (Stepped c)) = within_limit w
+limited w (Ok Unfinished) = within_limit w
+limited w (Ok Ended) = within_limit w
+limited w (Ok Passed) = within_limit w
+limited w (Ok Busy) = within_limit w
+limited w (Ok Failed) = within_limit w
+limited w (Err n) = within_limit w

@@ -2,11 +2,13 @@
 // out with what it interrupted. Each function is a few words read and written by the numbers of crates/pacing.
 #![tactic(auto)]
 
-ghost use Rattle.std.specs.Prelude.{◌≡◌, ◌+◌, ◌^◌, ◌≤◌, ◌<◌, max, length};
+ghost use Rattle.std.specs.Prelude.{◌≡◌, ◌+◌, ◌^◌, ◌≤◌, ◌<◌, length};
 ghost use Rattle.accounts.specs.Accounts.{count_at, memory_of, update_threshold, step_ends, handed, taken_back, after_cost, grown, within_limit, limited};
 
+use base::Refusal;
 use pacing::Counts;
-use value::{UdOr, UdRef, Value};
+use std::ops::ControlFlow;
+use value::{UdRef, Value};
 
 // What a step or finish answers.
 #[derive(Clone, Copy)]
@@ -25,7 +27,6 @@ pub enum Answer {
     Busy,
     // The finalizer failed; the call that it interrupted is over.
     Failed,
-    Refused(u32),
 }
 
 // What is interrupted: a single step, a budgeted one, a check, full in its first or second half.
@@ -38,13 +39,6 @@ pub const CHECK: u32 = 3;
 pub const FULL_FIRST: u32 = 4;
 
 pub const FULL_SECOND: u32 = 5;
-
-// One turn of a loop of steps: it goes on with what is left of the budget, or is over.
-#[derive(Clone, Copy)]
-pub enum Turn {
-    Left(u64),
-    Over(Answer),
-}
 
 // The count of occupied slots of the arena whose three header words are at p. Test 1 keeps the stored one within 4,096.
 fn count_at(w: &[u32], p: usize) -> usize
@@ -75,7 +69,7 @@ pub fn update_threshold(w: &mut [u32])
     ensures { w.new ≡ update_threshold w.old }
 {
     let total = memory_of(w) as u32;
-    let estimate = larger(base::get(w, layout::ESTIMATE), total);
+    let estimate = base::get(w, layout::ESTIMATE).max(total);
     let pause = base::get(w, layout::PAUSE);
     base::put(w, layout::TOTAL, total);
     base::put64(
@@ -83,15 +77,6 @@ pub fn update_threshold(w: &mut [u32])
         layout::THRESHOLD,
         pacing::cycle_threshold(estimate, pause),
     );
-}
-
-fn larger(x: u32, y: u32) -> u32
-    ensures { result ≡ max x y }
-{
-    if x < y {
-        return y;
-    }
-    x
 }
 
 // A budgeted step ends before the cycle does.
@@ -111,7 +96,7 @@ pub fn hand(w: &mut [u32], kind: u32, r: UdRef, left: u64)
     ensures { w.new ≡ handed kind r left w.old }
 {
     base::put(w, layout::INTERRUPTED, kind);
-    value::write_ud_or(w, layout::OUT, UdOr::Present(r));
+    value::write_ud_or(w, layout::OUT, Some(r));
     base::put64(w, layout::REMAINING, left);
 }
 
@@ -121,25 +106,25 @@ pub fn take_back(w: &mut [u32])
     ensures { w.new ≡ taken_back w.old }
 {
     base::put(w, layout::INTERRUPTED, 0);
-    value::write_ud_or(w, layout::OUT, UdOr::Absent);
+    value::write_ud_or(w, layout::OUT, None);
     base::put64(w, layout::REMAINING, 0);
 }
 
 // After a step of cost c: the end of the cycle, of the budget, or what is left of it.
-pub fn after_cost(w: &mut [u32], left: u64, c: usize) -> Turn
+pub fn after_cost(w: &mut [u32], left: u64, c: usize) -> ControlFlow<Result<Answer, Refusal>, u64>
     requires { 91 ≤ length w.old }
     ensures { (result, w.new) ≡ after_cost left c w.old }
 {
     if base::get(w, layout::PHASE) == 0 {
         update_threshold(w);
-        return Turn::Over(Answer::Ended);
+        return ControlFlow::Break(Ok(Answer::Ended));
     }
     let cost = c as u64;
     if left <= cost {
         step_ends(w);
-        return Turn::Over(Answer::Unfinished);
+        return ControlFlow::Break(Ok(Answer::Unfinished));
     }
-    Turn::Left(left - cost)
+    ControlFlow::Continue(left - cost)
 }
 
 // The debt grows by total minus threshold.
@@ -154,23 +139,27 @@ pub fn grow_debt(w: &mut [u32])
 }
 
 // 7 where the total is above the limit.
-fn within_limit(w: &[u32]) -> Answer
+fn within_limit(w: &[u32]) -> Result<Answer, Refusal>
     requires { 91 ≤ length w.now }
     ensures { result ≡ within_limit w.now }
 {
     if base::get64(w, layout::LIMIT) < base::get(w, layout::TOTAL) as u64 {
-        return Answer::Refused(7);
+        Err(Refusal::OverLimit)
+    } else {
+        Ok(Answer::Passed)
     }
-    Answer::Passed
 }
 
 // The limit is tested when a check's step has ended; a finalizer that is handed out has not ended it.
-pub fn limited(w: &[u32], a: Answer) -> Answer
+pub fn limited(w: &[u32], a: Result<Answer, Refusal>) -> Result<Answer, Refusal>
     requires { 91 ≤ length w.now }
     ensures { result ≡ limited w.now a }
 {
     match a {
-        Answer::Handed(r, v) => Answer::Handed(r, v),
-        _ => within_limit(w),
+        Ok(answer) => match answer {
+            Answer::Handed(..) => a,
+            _ => within_limit(w),
+        },
+        Err(_) => within_limit(w),
     }
 }

@@ -1,18 +1,16 @@
 -- Document 01, 'Slots and colours': the words of one arena, read and written by name; a slot taken, freed and swept.
 -- An `Arena` says where the parts lie, so this holds of each of the six. Assumes nothing.
-use Rattle.std.specs.Prelude.{ℕ, ◌+◌, ◌-◌, ◌*◌, ◌%◌, ◌^◌, ◌<◌, ◌≤◌, min, List, length, nat_le}
+use Rattle.std.specs.Prelude.{ℕ, ◌+◌, ◌-◌, ◌*◌, ◌%◌, ◌^◌, ◌<◌, ◌≤◌, min, List, length, nat_le, Some, None, Ok, Err, Option, Result}
 use Rattle.std.proofs.Common.{suc-mul, mul-le-mul_right}
 use Rattle.base.specs.Ways.{if_lt, if_le, if_eq}
 use Rattle.base.specs.Loop.{run, scan}
 use Rattle.base.specs.Words.{at, put, clear, more, bounded}
 use Rattle.base.specs.Heap.{Heap, heap}
+use Rattle.base.specs.declared.Refusal.TheVariants.{Stale}
+use Rattle.base.specs.declared.Refusal.{Refusal}
+use Rattle.arena.specs.declared.Untaken.{Untaken}
+use Rattle.arena.specs.declared.Untaken.TheVariants.{NoneFree, Broken}
 use Rattle.arena.specs.declared.Arena.{Arena}
-use Rattle.arena.specs.declared.Named.{Named}
-use Rattle.arena.specs.declared.Named.TheVariants.{At, Stale}
-use Rattle.arena.specs.declared.Took.{Took}
-use Rattle.arena.specs.declared.Took.TheVariants.{Slot, Full, Damaged}
-use Rattle.arena.specs.declared.Freed.{Freed}
-use Rattle.arena.specs.declared.Freed.TheVariants.{Done, Refused}
 use Rattle.arena.specs.declared.Sweep.{Sweep}
 use Rattle.arena.specs.declared.Swept.{Swept}
 
@@ -91,17 +89,17 @@ abbrev pub count_more : Arena → List ℕ → List ℕ
 count_more a w = set_count a (more (count a w)) w
 
 -- A handle, index i and generation g, names an occupied slot of its generation, or nothing.
-unfoldable pub named : Arena → ℕ → ℕ → List ℕ → Named
+unfoldable pub named : Arena → ℕ → ℕ → List ℕ → Option ℕ
 named a i g w =
-    if_le (used a w) i Stale
+    if_le (used a w) i None
     (if_eq (gen a i w) g
-    (if_eq (colour a i w) 0 Stale (At i))
-    Stale)
+    (if_eq (colour a i w) 0 None (Some i))
+    None)
 
 -- what is named lies below n
-abbrev pub Within : Named → ℕ → Type 0
-Within (At i) n = i < n
-Within Stale n = Unit {0}
+abbrev pub Within : Option ℕ → ℕ → Type 0
+Within (Some i) n = i < n
+Within None n = Unit {0}
 
 -- How many slots are occupied, by their colours.
 unfoldable pub tallied : Arena → List ℕ → ℕ → ℕ → ℕ
@@ -133,11 +131,11 @@ unfoldable pub free_slot : Arena → ℕ → Heap → Heap
 free_slot a i h = heap (chained a i (emptied a i h).words) (emptied a i h).bytes
 
 -- `free` refuses what names no occupied slot, a free slot too, with 2.
-abbrev pub freed_at : Arena → Heap → Named → Freed × Heap
-freed_at a h (At i) = (Done, free_slot a i h)
-freed_at a h Stale = (Refused 2, h)
+abbrev pub freed_at : Arena → Heap → Option ℕ → Result Unit Refusal × Heap
+freed_at a h (Some i) = (Ok tt, free_slot a i h)
+freed_at a h None = (Err Stale, h)
 
-unfoldable pub freed : Arena → ℕ → ℕ → Heap → Freed × Heap
+unfoldable pub freed : Arena → ℕ → ℕ → Heap → Result Unit Refusal × Heap
 freed a i g h = freed_at a h (named a i g h.words)
 
 -- Allocation takes the head, else the next fresh index at generation 0. The slot then has colour c and a record of n words.
@@ -151,29 +149,29 @@ unfoldable pub opened : Arena → ℕ → ℕ → ℕ → List ℕ → List ℕ
 opened a i c n w = filled a i c n (set_gen a i 0 (set_fresh a (i + 1) w))
 
 -- Where neither gives a slot, nothing is made: every slot is occupied, or a head or fresh index names no free slot.
-unfoldable pub no_room : Arena → List ℕ → Took
-no_room a w = if_lt (occupied a w) a.slots Damaged Full
+unfoldable pub no_room : Arena → List ℕ → Result (ℕ × ℕ) Untaken
+no_room a w = if_lt (occupied a w) a.slots (Err Broken) (Err NoneFree)
 
-unfoldable pub take_head : Arena → ℕ → ℕ → ℕ → List ℕ → Took × List ℕ
+unfoldable pub take_head : Arena → ℕ → ℕ → ℕ → List ℕ → Result (ℕ × ℕ) Untaken × List ℕ
 take_head a i c n w =
     if_le (used a w) i (no_room a w, w)
     (if_lt 0 (colour a i w) (no_room a w, w)
-    (Slot i (gen a i w), popped a i c n w))
+    (Ok (i, gen a i w), popped a i c n w))
 
-unfoldable pub take_fresh : Arena → ℕ → ℕ → ℕ → List ℕ → Took × List ℕ
+unfoldable pub take_fresh : Arena → ℕ → ℕ → ℕ → List ℕ → Result (ℕ × ℕ) Untaken × List ℕ
 take_fresh a i c n w =
     if_le a.slots i (no_room a w, w)
     (if_lt 0 (colour a i w) (no_room a w, w)
-    (Slot i 0, opened a i c n w))
+    (Ok (i, 0), opened a i c n w))
 
-unfoldable pub take_slot : Arena → ℕ → ℕ → List ℕ → Took × List ℕ
+unfoldable pub take_slot : Arena → ℕ → ℕ → List ℕ → Result (ℕ × ℕ) Untaken × List ℕ
 take_slot a c n w = if_lt 0 (head a w) (take_head a (head a w - 1) c n w) (take_fresh a (fresh a w) c n w)
 
 -- what is taken lies below n
-abbrev pub Taken : Took → ℕ → Type 0
-Taken (Slot i g) n = i < n
-Taken Full n = Unit {0}
-Taken Damaged n = Unit {0}
+abbrev pub Taken : Result (ℕ × ℕ) Untaken → ℕ → Type 0
+Taken (Ok (i, g)) n = i < n
+Taken (Err NoneFree) n = Unit {0}
+Taken (Err Broken) n = Unit {0}
 
 -- A sweep visits slots upward from the start until max occupied ones were seen or the end, the fresh index.
 -- Old-white ones are freed; other occupied ones take the new white.

@@ -7,7 +7,7 @@ ghost use Rattle.std.specs.Prelude.{◌≡◌, ℕ, ◌+◌, ◌*◌, ◌<◌, �
 ghost use Rattle.base.specs.Heap.{heap};
 ghost use Rattle.arena.specs.Slots.{Room, Wide, colour, set_colour, gen, set_gen, link, set_link, extent, set_extent, head, set_head, set_fresh, count, used, named, Within, tallied, occupied, clear_body, clear_text, aged, pushed, count_less, free_slot, freed, filled, no_room, take_head, take_fresh, take_slot, Taken, visit, sweep_partial};
 
-use base::wide;
+use base::{Refusal, wide};
 
 // Where the parts of one arena lie.
 #[derive(Clone, Copy)]
@@ -24,29 +24,13 @@ pub struct Arena {
     pub width: usize,
 }
 
-// What a handle names.
-#[derive(Clone, Copy)]
-pub enum Named {
-    At(usize),
-    Stale,
-}
-
-// What taking a slot finds.
-#[derive(Clone, Copy)]
-pub enum Took {
-    // A slot, with its generation.
-    Slot(usize, u32),
+// Why no slot is taken.
+#[derive(Clone, Copy, PartialEq, Eq)]
+pub enum Untaken {
     // Every slot is occupied.
-    Full,
+    NoneFree,
     // The head or the fresh index names no free slot.
-    Damaged,
-}
-
-// What freeing by a handle answers.
-#[derive(Clone, Copy)]
-pub enum Freed {
-    Done,
-    Refused(u32),
+    Broken,
 }
 
 // A sweep on its way: how many occupied slots it may still see, and how many it freed.
@@ -138,30 +122,20 @@ pub fn used_of(w: &[u32], a: Arena) -> usize
     ensures { (result ≡ used a w.now) × (result ≤ a.slots) }
 {
     let at = a.top + 1;
-    let n = a.slots;
-    let f = wide(w[at]);
-    if f < n {
-        return f;
-    }
-    n
+    wide(w[at]).min(a.slots)
 }
 
 // The occupied slot below the fresh index that a handle names. This is the one place that tests a handle.
-pub fn name_of(w: &[u32], a: Arena, index: u32, generation: u32) -> Named
+pub fn name_of(w: &[u32], a: Arena, index: u32, generation: u32) -> Option<usize>
     requires { Room a w.now }
     ensures { (result ≡ named a index generation w.now) × Within result a.slots }
 {
     let i = wide(index);
-    if used_of(w, a) <= i {
-        return Named::Stale;
+    if i < used_of(w, a) && generation_of(w, a, i) == generation && colour_of(w, a, i) != 0 {
+        Some(i)
+    } else {
+        None
     }
-    if generation_of(w, a, i) != generation {
-        return Named::Stale;
-    }
-    if colour_of(w, a, i) == 0 {
-        return Named::Stale;
-    }
-    Named::At(i)
 }
 
 // One turn of the count below: a slot that is not free is one more.
@@ -183,10 +157,8 @@ pub fn occupied_of(w: &[u32], a: Arena) -> usize
 {
     let end = used_of(w, a);
     let mut n: usize = 0;
-    let mut i: usize = 0;
-    while i < end {
+    for i in 0..end {
         n = tally(w, a, i, n);
-        i += 1;
     }
     n
 }
@@ -223,7 +195,7 @@ fn age_slot(w: &mut [u32], a: Arena, i: usize)
     let at = a.base + a.slots + i;
     let paint = a.base + i;
     w[size] = 0;
-    w[at] = std::num::wrapping_add_u32(w[at], 1);
+    w[at] = w[at].wrapping_add(1);
     w[paint] = 0;
 }
 
@@ -255,17 +227,23 @@ pub fn free_slot(w: &mut [u32], b: &mut [u8], a: Arena, i: usize)
 }
 
 // The slot that a handle names is freed; a handle that names none is refused with 2.
-pub fn free(w: &mut [u32], b: &mut [u8], a: Arena, index: u32, generation: u32) -> Freed
+pub fn free(
+    w: &mut [u32],
+    b: &mut [u8],
+    a: Arena,
+    index: u32,
+    generation: u32,
+) -> Result<(), Refusal>
     requires room { Room a w.old }
     requires wide { Wide a b.old }
     ensures { (result, heap w.new b.new) ≡ freed a index generation (heap w.old b.old) }
 {
     match name_of(w, a, index, generation) {
-        Named::At(i) => {
+        Some(i) => {
             free_slot(w, b, a, i);
-            Freed::Done
+            Ok(())
         }
-        Named::Stale => Freed::Refused(2),
+        None => Err(Refusal::Stale),
     }
 }
 
@@ -311,19 +289,19 @@ fn open_slot(w: &mut [u32], a: Arena, i: usize)
 }
 
 // No slot was found: every slot is occupied, or the words are damaged. This is the one place that decides "no room".
-fn no_room(w: &[u32], a: Arena) -> Took
+fn no_room(w: &[u32], a: Arena) -> Result<(usize, u32), Untaken>
     requires { Room a w.now }
     ensures { (result ≡ no_room a w.now) × Taken result a.slots }
 {
-    let n = a.slots;
-    if occupied_of(w, a) < n {
-        return Took::Damaged;
+    if occupied_of(w, a) < a.slots {
+        Err(Untaken::Broken)
+    } else {
+        Err(Untaken::NoneFree)
     }
-    Took::Full
 }
 
 // The head is taken, if it names a free slot.
-fn take_head(w: &mut [u32], a: Arena, i: usize, c: u32, n: u32) -> Took
+fn take_head(w: &mut [u32], a: Arena, i: usize, c: u32, n: u32) -> Result<(usize, u32), Untaken>
     requires { Room a w.old }
     ensures { ((result, w.new) ≡ take_head a i c n w.old) × Taken result a.slots }
 {
@@ -335,11 +313,11 @@ fn take_head(w: &mut [u32], a: Arena, i: usize, c: u32, n: u32) -> Took
     }
     let g = pop_slot(w, a, i);
     fill_slot(w, a, i, c, n);
-    Took::Slot(i, g)
+    Ok((i, g))
 }
 
 // The next fresh index is taken, if it names a free slot.
-fn take_fresh(w: &mut [u32], a: Arena, i: usize, c: u32, n: u32) -> Took
+fn take_fresh(w: &mut [u32], a: Arena, i: usize, c: u32, n: u32) -> Result<(usize, u32), Untaken>
     requires { Room a w.old }
     ensures { ((result, w.new) ≡ take_fresh a i c n w.old) × Taken result a.slots }
 {
@@ -352,11 +330,11 @@ fn take_fresh(w: &mut [u32], a: Arena, i: usize, c: u32, n: u32) -> Took
     }
     open_slot(w, a, i);
     fill_slot(w, a, i, c, n);
-    Took::Slot(i, 0)
+    Ok((i, 0))
 }
 
 // A slot is taken for a record of n words, with colour c: the head of the chain, else the next fresh index.
-pub fn take_slot(w: &mut [u32], a: Arena, c: u32, n: u32) -> Took
+pub fn take_slot(w: &mut [u32], a: Arena, c: u32, n: u32) -> Result<(usize, u32), Untaken>
     requires { Room a w.old }
     ensures { ((result, w.new) ≡ take_slot a c n w.old) × Taken result a.slots }
 {
@@ -425,21 +403,19 @@ pub fn sweep_partial(
         left: most,
         freed: 0,
     };
-    let mut i = start;
-    while i < end {
+    for i in start..end {
         if s.left == 0 {
             return Swept {
                 freed: s.freed,
                 next: i,
-                done: end <= i,
+                done: false,
             };
         }
         s = visit_slot(w, b, a, dead, white, i, s);
-        i += 1;
     }
     Swept {
         freed: s.freed,
-        next: i,
-        done: end <= i,
+        next: start.max(end),
+        done: true,
     }
 }

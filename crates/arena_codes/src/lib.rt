@@ -4,9 +4,10 @@
 ghost use Rattle.std.specs.Prelude.{◌≡◌, ℕ, ◌^◌, ◌≤◌, ◌<◌, length};
 ghost use Rattle.base.specs.Heap.{heap};
 ghost use Rattle.arena.specs.Slots.{Room, Wide};
-ghost use Rattle.arena_codes.specs.Codes.{told, take_in, free_in, paint_in, flag_of, told_swept, sweep_in};
+ghost use Rattle.arena_codes.specs.Codes.{told, take_in, free_in, paint_in, told_swept, sweep_in};
 
-use arena::{Arena, Freed, Named, Swept, Took};
+use arena::{Arena, Swept, Untaken};
+use base::Refusal;
 
 // Words 0 and 1 of an answer.
 fn tell(out: &mut [u32], x: u32, y: u32)
@@ -24,12 +25,12 @@ pub fn take_in(w: &mut [u32], a: Arena, c: u32, n: u32, out: &mut [u32]) -> u32
     ensures { (result, heap w.new out.new) ≡ take_in a c n (heap w.old out.old) }
 {
     match arena::take_slot(w, a, c, n) {
-        Took::Slot(i, g) => {
+        Ok((i, g)) => {
             tell(out, i as u32, g);
             0
         }
-        Took::Full => 3,
-        Took::Damaged => 8,
+        Err(Untaken::NoneFree) => Refusal::Full.number(),
+        Err(Untaken::Broken) => Refusal::Damaged.number(),
     }
 }
 
@@ -40,8 +41,8 @@ pub fn free_in(w: &mut [u32], b: &mut [u8], a: Arena, index: u32, generation: u3
     ensures { (result, heap w.new b.new) ≡ free_in a index generation (heap w.old b.old) }
 {
     match arena::free(w, b, a, index, generation) {
-        Freed::Done => 0,
-        Freed::Refused(r) => r,
+        Ok(()) => 0,
+        Err(r) => r.number(),
     }
 }
 
@@ -51,29 +52,22 @@ pub fn paint_in(w: &mut [u32], a: Arena, index: u32, generation: u32, c: u32) ->
     ensures { (result, w.new) ≡ paint_in a index generation c w.old }
 {
     match arena::name_of(w, a, index, generation) {
-        Named::At(i) => {
+        Some(i) => {
             arena::set_colour(w, a, i, c);
             0
         }
-        Named::Stale => 2,
+        None => Refusal::Stale.number(),
     }
 }
 
-// A done sweep is 1, an unfinished one 0.
-fn flag(done: bool) -> u32
-    ensures { result ≡ flag_of done }
-{
-    if done { 1 } else { 0 }
-}
-
-// Words 0 to 2 of an answer: how many slots were freed, the next position, whether the sweep is done.
+// Words 0 to 2 of an answer: how many slots were freed, the next position, and 1 for a done sweep, 0 for an unfinished one.
 fn tell_swept(out: &mut [u32], s: Swept)
     requires in_bounds { 3 ≤ length out.old }
     requires freed_bound { (s.freed < 2 ^ 32) × (s.next < 2 ^ 32) }
     ensures { out.new ≡ told_swept s out.old }
 {
     tell(out, s.freed as u32, s.next as u32);
-    base::put(out, 2, flag(s.done));
+    base::put(out, 2, u32::from(s.done));
 }
 
 // Slots are swept: 0, with the answer in out.

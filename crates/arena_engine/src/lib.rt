@@ -7,34 +7,34 @@ ghost use Rattle.base.specs.Heap.{heap};
 ghost use Rattle.arena_engine.specs.Exports.{placed, Places, take_on, free_on, paint_on, sweep_on};
 
 use arena::Arena;
-
-// Where an arena lies, or that the buffers are too short for it.
-#[derive(Clone, Copy)]
-pub enum Placed {
-    Fits(Arena),
-    Refused(u32),
-}
+use base::Refusal;
 
 // An arena of `slots` slots, each with a body of `stride` words and `width` bytes.
-fn place(words: usize, bytes: usize, slots: usize, stride: usize, width: usize) -> Placed
+fn place(
+    words: usize,
+    bytes: usize,
+    slots: usize,
+    stride: usize,
+    width: usize,
+) -> Result<Arena, Refusal>
     ensures { (result ≡ placed words bytes slots stride width) × Places result words bytes }
 {
     if 4096 < slots {
-        return Placed::Refused(1);
+        return Err(Refusal::Unfit);
     }
     if 1024 < stride {
-        return Placed::Refused(1);
+        return Err(Refusal::Unfit);
     }
     if 64 < width {
-        return Placed::Refused(1);
+        return Err(Refusal::Unfit);
     }
     if words < 3 + 4 * slots + slots * stride {
-        return Placed::Refused(1);
+        return Err(Refusal::Unfit);
     }
     if bytes < slots * width {
-        return Placed::Refused(1);
+        return Err(Refusal::Unfit);
     }
-    Placed::Fits(Arena {
+    Ok(Arena {
         top: 0,
         base: 3,
         slots,
@@ -62,8 +62,8 @@ pub extern "C" fn sieddesan_arena_take(
         return 1;
     }
     match place(w.len(), b.len(), slots, stride, width) {
-        Placed::Fits(a) => arena_codes::take_in(w, a, c, n, out),
-        Placed::Refused(r) => r,
+        Ok(a) => arena_codes::take_in(w, a, c, n, out),
+        Err(r) => r.number(),
     }
 }
 
@@ -81,8 +81,8 @@ pub extern "C" fn sieddesan_arena_free(
     ensures { (result, heap w.new b.new) ≡ free_on slots stride width index generation (heap w.old b.old) }
 {
     match place(w.len(), b.len(), slots, stride, width) {
-        Placed::Fits(a) => arena_codes::free_in(w, b, a, index, generation),
-        Placed::Refused(r) => r,
+        Ok(a) => arena_codes::free_in(w, b, a, index, generation),
+        Err(r) => r.number(),
     }
 }
 
@@ -101,8 +101,8 @@ pub extern "C" fn sieddesan_arena_paint(
     ensures { (result, w.new) ≡ paint_on (length b.now) slots stride width index generation c w.old }
 {
     match place(w.len(), b.len(), slots, stride, width) {
-        Placed::Fits(a) => arena_codes::paint_in(w, a, index, generation, c),
-        Placed::Refused(r) => r,
+        Ok(a) => arena_codes::paint_in(w, a, index, generation, c),
+        Err(r) => r.number(),
     }
 }
 
@@ -126,7 +126,7 @@ pub extern "C" fn sieddesan_arena_sweep(
         return 1;
     }
     match place(w.len(), b.len(), slots, stride, width) {
-        Placed::Fits(a) => arena_codes::sweep_in(w, b, a, dead, white, start, most, out),
-        Placed::Refused(r) => r,
+        Ok(a) => arena_codes::sweep_in(w, b, a, dead, white, start, most, out),
+        Err(r) => r.number(),
     }
 }

@@ -1,7 +1,7 @@
 -- A small arena that is well-formed, and the theorems put to it. Assumes nothing.
 -- It has six slots, the fresh index 5, slot 4 free, slots 1 and 3 in the old white. A sweep frees 3 and 1, the chain is then
 -- 3, 1, 4, and the generation 4294967295 of slot 3 becomes 0.
-use Rattle.std.specs.Prelude.{◌≡◌, refl, true, ℕ, zero, suc, ◌<◌}
+use Rattle.std.specs.Prelude.{◌≡◌, refl, true, ℕ, zero, suc, ◌<◌, Some, None, Ok}
 use Rattle.std.proofs.Common.{sym, subst, arith}
 use mathlib.Core.List.Memᴰ
 use mathlib.Core.List.{List, [], ◌∷◌, Memᴰ}
@@ -11,8 +11,6 @@ use Rattle.base.specs.Words.{clear}
 use Rattle.base.specs.Heap.{Heap, heap}
 use Rattle.arena.specs.Slots.{Room, colour, head, named, tallied, occupied, emptied, chained, free_slot, take_slot, take_head, visit, sweep_partial}
 use Rattle.arena.specs.declared.Arena.{Arena}
-use Rattle.arena.specs.declared.Named.TheVariants.{At, Stale}
-use Rattle.arena.specs.declared.Took.TheVariants.{Slot}
 use Rattle.arena_laws.specs.Chain.{Chain, WellFormed}
 use Rattle.arena_laws.specs.Takes.{take_made}
 use Rattle.arena_laws.specs.Sweeps.{Sweeps, sweep_does}
@@ -85,7 +83,7 @@ unfolding six six_words six_heap if_le if_eq sweep_partial scan scans visit free
 six_dead = (six_sweeps.cleaned.is 3).1 (omega arith, omega arith, omega arith, refl)
 
 -- a handle of slot 3 names it, and names nothing after the sweep
-pub six_named : named six 3 4294967295 six_heap.words ≡ At 3
+pub six_named : named six 3 4294967295 six_heap.words ≡ Some 3
 unfolding six six_words six_heap if_le if_eq named
 six_named = refl
 
@@ -98,14 +96,14 @@ unfolding six six_op six_words six_heap freed_one if_le if_eq sweep_partial scan
 six_freed = refl
 
 -- so the handle is stale
-pub six_stale : named six 3 4294967295 (after six (six_op ∷ []) six_heap).words ≡ Stale
+pub six_stale : named six 3 4294967295 (after six (six_op ∷ []) six_heap).words ≡ None
 six_stale = stale_until six 3 4294967295 (six_op ∷ []) six_heap six_room six_well_formed (omega arith) six_named (omega (arith, six_freed)) (omega (arith, six_freed))
 
 -- the head of the chain is taken: slot 4 at its generation 2
-pub six_takes : (take_slot six 3 1 six_heap.words).0 ≡ Slot 4 2
+pub six_takes : (take_slot six 3 1 six_heap.words).0 ≡ Ok (4, 2)
 unfolding six six_words six_heap if_lt if_le if_eq take_slot take_head
 six_takes = refl
 
 -- and the handle names it
-pub six_made : named six 4 2 (take_slot six 3 1 six_heap.words).1 ≡ At 4
+pub six_made : named six 4 2 (take_slot six 3 1 six_heap.words).1 ≡ Some 4
 six_made = (take_made six 3 1 six_heap.words six_room six_well_formed (omega arith) (omega arith) 4 2 six_takes).names

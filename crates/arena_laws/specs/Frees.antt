@@ -1,5 +1,5 @@
 -- Freeing zeroes the body, adds 1 to the generation modulo 2^32 and puts the slot at the head of the chain. Assumes nothing.
-use Rattle.std.specs.Prelude.{◌≡◌, refl, ◌⊎◌, ◌≢◌, length}
+use Rattle.std.specs.Prelude.{◌≡◌, refl, ◌⊎◌, ◌≢◌, length, Some, None, Ok, Err, Option}
 use Rattle.std.proofs.Common.{sym, subst, ◌∙◌, ⊎_elim}
 use Rattle.std.proofs.Math.Path.{ap}
 use mathlib.Core.List.{List, ◌∷◌}
@@ -8,11 +8,9 @@ use native.Mathlib.Omega.{arith}
 use Rattle.base.specs.Ways.{le_yes, le_no}
 use Rattle.base.specs.Words.{at, clear}
 use Rattle.base.specs.Heap.{Heap}
+use Rattle.base.specs.declared.Refusal.TheVariants.{Stale}
 use Rattle.arena.specs.Slots.{Room, Wide, row, colour, gen, head, extent, fresh, named, emptied, chained, free_slot, freed, freed_at}
 use Rattle.arena.specs.declared.Arena.{Arena}
-use Rattle.arena.specs.declared.Named.{Named}
-use Rattle.arena.specs.declared.Named.TheVariants.{At, Stale}
-use Rattle.arena.specs.declared.Freed.TheVariants.{Done, Refused}
 use Rattle.arena_laws.specs.Words.{le_or_lt, puts_far, clear_length, clear_in, clear_out}
 use Rattle.arena_laws.specs.Chain.{Chain, WellFormed}
 use Rattle.arena_laws.specs.Changes.{Outside, rows_apart, free_cells, freed_is}
@@ -23,7 +21,7 @@ use Rattle.arena_laws.specs.Keeps.{push_keeps, own_colour, other_gen, other_colo
 pub record Gone (a : Arena) (i : ℕ) (h h' : Heap) (free : List ℕ) : Type 0 where
   pub long : length h'.words ≡ length h.words
   -- handles of the slot name nothing
-  pub stale : (g : ℕ) → named a i g h'.words ≡ Stale
+  pub stale : (g : ℕ) → named a i g h'.words ≡ None
   -- the other slots keep colour and generation, and their handles name what they named
   pub others : (j g : ℕ) → j ≢ i → named a j g h'.words ≡ named a j g h.words
   pub colours : (j : ℕ) → j < a.slots → j ≢ i → colour a j h'.words ≡ colour a j h.words
@@ -117,17 +115,17 @@ module _ (a : Arena) (i : ℕ) (h : Heap) (r : Room a h.words) where
       }
 
   -- `free` with a handle that names a slot frees it
-  pub free_done : (g : ℕ) → named a i g h.words ≡ At i → freed a i g h ≡ (Done, free_slot a i h)
+  pub free_done : (g : ℕ) → named a i g h.words ≡ Some i → freed a i g h ≡ (Ok tt, free_slot a i h)
   unfolding freed
-  free_done g e = ap (λ (n : Named). freed_at a h n) e
+  free_done g e = ap (λ (n : Option ℕ). freed_at a h n) e
 
   -- what becomes of the heap then
-  pub free_gone : (v : WellFormed a h.words) (g : ℕ) → named a i g h.words ≡ At i → Gone a i h (freed a i g h).1 v.free
+  pub free_gone : (v : WellFormed a h.words) (g : ℕ) → named a i g h.words ≡ Some i → Gone a i h (freed a i g h).1 v.free
   free_gone v g e =
       let t : Names a i g h.words = named_tells a i g h.words e in
       subst (λ (h' : Heap). Gone a i h h' v.free) (sym (ap (λ x. x.1) (free_done g e))) (slot_gone v (omega (arith, t.below)) t.occupied)
 
   -- `free` refuses a handle that names nothing with 2, and changes nothing
-  pub free_refuses : (g : ℕ) → named a i g h.words ≡ Stale → freed a i g h ≡ (Refused 2, h)
+  pub free_refuses : (g : ℕ) → named a i g h.words ≡ None → freed a i g h ≡ (Err Stale, h)
   unfolding freed
-  free_refuses g e = ap (λ (n : Named). freed_at a h n) e
+  free_refuses g e = ap (λ (n : Option ℕ). freed_at a h n) e

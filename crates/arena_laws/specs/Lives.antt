@@ -1,6 +1,6 @@
 -- A handle whose slot was freed names nothing until the slot was freed 2^32 times. Assumes nothing.
 use Rattle.std.proofs.Math.Path.{◌≡◌, sym, subst}
-use Rattle.std.specs.Prelude.{refl, ◌⊎◌, ◌≢◌, ℕ, ◌+◌, ◌*◌, ◌%◌, ◌^◌, ◌≤◌, ◌<◌, length}
+use Rattle.std.specs.Prelude.{refl, ◌⊎◌, ◌≢◌, ℕ, ◌+◌, ◌*◌, ◌%◌, ◌^◌, ◌≤◌, ◌<◌, length, Some, None}
 use Rattle.std.proofs.Common.{ap, ◌∙◌, inl, inr, arith}
 use Rattle.std.proofs.Math.Logic.{⊎_elim}
 use mathlib.Core.List.{List, [], ◌∷◌}
@@ -10,7 +10,6 @@ use Rattle.base.specs.Words.{at}
 use Rattle.base.specs.Heap.{Heap, heap}
 use Rattle.arena.specs.Slots.{Room, colour, set_colour, gen, link, head, fresh, count, used, named, take_slot, freed, sweep_partial}
 use Rattle.arena.specs.declared.Arena.{Arena}
-use Rattle.arena.specs.declared.Named.TheVariants.{At, Stale}
 use Rattle.arena_laws.specs.Words.{le_or_lt}
 use Rattle.arena_laws.specs.Chain.{WellFormed}
 use Rattle.arena_laws.specs.Changes.{Becomes, painted_is, room_after}
@@ -104,7 +103,7 @@ module _ (a : Arena) (h : Heap) (r : Room a h.words) (v : WellFormed a h.words) 
   }
 
   -- a slot freed
-  gone : (i g : ℕ) (h' : Heap) (fl : List ℕ) → named a i g w ≡ At i → Gone a i h h' fl → Step a w h'.words
+  gone : (i g : ℕ) (h' : Heap) (fl : List ℕ) → named a i g w ≡ Some i → Gone a i h h' fl → Step a w h'.words
   gone i g h' fl e m = record {
     long = m.long;
     keeps = m.keeps;
@@ -235,8 +234,8 @@ lives a i (o ∷ os) h r v l b =
     }
 
 -- A handle that named a slot names nothing after the slot was freed, until it was freed 2^32 times.
-pub stale_until : (a : Arena) (i g : ℕ) (os : List (Op a)) (h : Heap) → Room a h.words → WellFormed a h.words → g < 2 ^ 32 → named a i g h.words ≡ At i
-    → 1 ≤ frees a i os h → frees a i os h < 2 ^ 32 → named a i g (after a os h).words ≡ Stale
+pub stale_until : (a : Arena) (i g : ℕ) (os : List (Op a)) (h : Heap) → Room a h.words → WellFormed a h.words → g < 2 ^ 32 → named a i g h.words ≡ Some i
+    → 1 ≤ frees a i os h → frees a i os h < 2 ^ 32 → named a i g (after a os h).words ≡ None
 stale_until a i g os h r v b e f₁ f₂ =
     let t : Names a i g h.words = named_tells a i g h.words e in
     let l = lives a i os h r v (omega (arith, t.below)) (omega (arith, t.gen)) in
@@ -249,8 +248,8 @@ stays_occupied a i (o ∷ os) h n e =
     stays_occupied a i os (does a o h) (λ z. omega (arith, is_freed a i h.words (does a o h).words n z)) (omega arith)
 
 -- and a handle that named it names it still
-pub names_until : (a : Arena) (i g : ℕ) (os : List (Op a)) (h : Heap) → Room a h.words → WellFormed a h.words → g < 2 ^ 32 → named a i g h.words ≡ At i
-    → frees a i os h ≡ 0 → named a i g (after a os h).words ≡ At i
+pub names_until : (a : Arena) (i g : ℕ) (os : List (Op a)) (h : Heap) → Room a h.words → WellFormed a h.words → g < 2 ^ 32 → named a i g h.words ≡ Some i
+    → frees a i os h ≡ 0 → named a i g (after a os h).words ≡ Some i
 names_until a i g os h r v b e f =
     let t : Names a i g h.words = named_tells a i g h.words e in
     let l = lives a i os h r v (omega (arith, t.below)) (omega (arith, t.gen)) in

@@ -1,5 +1,5 @@
 -- Allocation takes the head of the chain, else the next fresh index. What it makes of a well-formed arena. Assumes nothing.
-use Rattle.std.specs.Prelude.{◌≡◌, refl, ◌⊎◌, ◌≢◌, length}
+use Rattle.std.specs.Prelude.{◌≡◌, refl, ◌⊎◌, ◌≢◌, length, Some, Ok, Err, Result}
 use Rattle.std.proofs.Common.{sym, subst, ap, ◌∙◌, inl, inr, arith}
 use Rattle.std.proofs.Math.Logic.{⊎_elim}
 use mathlib.Core.List.Memᴰ
@@ -8,17 +8,21 @@ use Prim.Native.Nat.{ℕ, ◌+◌, ◌-◌, ◌*◌, ◌≤◌, ◌<◌}
 use Rattle.std.proofs.Math.Decide.{ℕ_discrete}
 use Rattle.base.specs.Ways.{if_lt, lt_yes, lt_no, le_no, le_yes}
 use Rattle.base.specs.Words.{at, more, bounded}
+use Rattle.arena.specs.declared.Untaken.{Untaken}
+use Rattle.arena.specs.declared.Untaken.TheVariants.{NoneFree, Broken}
 use Rattle.arena.specs.Slots.{Room, colour, gen, link, head, extent, fresh, count, used, occupied, named, popped, opened, no_room, take_head, take_fresh, take_slot}
 use Rattle.arena.specs.declared.Arena.{Arena}
-use Rattle.arena.specs.declared.Named.TheVariants.{At}
-use Rattle.arena.specs.declared.Took.{Took}
-use Rattle.arena.specs.declared.Took.TheVariants.{Slot, Full, Damaged}
 use Rattle.arena_laws.specs.Words.{le_or_lt, le_is}
 use Rattle.arena_laws.specs.Counts.{tally, tally_all, colours, occupied_is}
 use Rattle.arena_laws.specs.Chain.{Chain, WellFormed}
 use Rattle.arena_laws.specs.Changes.{Outside, Becomes, popped_is, opened_is}
 use Rattle.arena_laws.specs.Names.{named_past, named_old, named_free, named_at, named_alike}
 use Rattle.arena_laws.specs.Keeps.{pop_keeps, open_keeps, own_colour, other_gen, other_colour, other_extent, other_word, other_outside, other_named}
+
+-- the slot that an answer names, with its generation
+abbrev slot_in : Result (ℕ × ℕ) Untaken → ℕ × ℕ
+slot_in (Ok x) = x
+slot_in (Err e) = (0, 0)
 
 -- Slot i was taken, at generation g, in colour c, with a record of n words: the words w became w'.
 pub record Made (a : Arena) (c n : ℕ) (w w' : List ℕ) (i g : ℕ) : Type 0 where
@@ -27,7 +31,7 @@ pub record Made (a : Arena) (c n : ℕ) (w w' : List ℕ) (i g : ℕ) : Type 0 w
   -- the slot was free
   pub was : colour a i w ≡ 0
   -- the handle names it, and every other handle names what it named
-  pub names : named a i g w' ≡ At i
+  pub names : named a i g w' ≡ Some i
   pub others : (j h : ℕ) → ((j ≡ i) × (h ≡ g) → ⊥) → named a j h w' ≡ named a j h w
   -- the colours of the other slots stay
   pub colours : (j : ℕ) → j < a.slots → j ≢ i → colour a j w' ≡ colour a j w
@@ -56,9 +60,9 @@ chain_none a w (i ∷ is) c = absurd (omega (arith, c.0))
 module _ (a : Arena) (c n : ℕ) (w : List ℕ) (r : Room a w) (v : WellFormed a w) (c₁ : 1 ≤ c) (c₄ : c ≤ 4) where
   -- Every answer there is: the head, the fresh index, or that every slot is occupied.
   pub data Takes : Type 0 where
-    pops : (i : ℕ) (rest : List ℕ) → v.free ≡ i ∷ rest → take_slot a c n w ≡ (Slot i (gen a i w), popped a i c n w) → Takes
-    opens : v.free ≡ [] → fresh a w < a.slots → take_slot a c n w ≡ (Slot (fresh a w) 0, opened a (fresh a w) c n w) → Takes
-    fills : take_slot a c n w ≡ (Full, w) → ((i : ℕ) → i < a.slots → 0 < colour a i w) → Takes
+    pops : (i : ℕ) (rest : List ℕ) → v.free ≡ i ∷ rest → take_slot a c n w ≡ (Ok (i, gen a i w), popped a i c n w) → Takes
+    opens : v.free ≡ [] → fresh a w < a.slots → take_slot a c n w ≡ (Ok (fresh a w, 0), opened a (fresh a w) c n w) → Takes
+    fills : take_slot a c n w ≡ (Err NoneFree, w) → ((i : ℕ) → i < a.slots → 0 < colour a i w) → Takes
 
   -- one of them is the answer
   pub take_cases : Takes
@@ -76,10 +80,10 @@ module _ (a : Arena) (c n : ℕ) (w : List ℕ) (r : Room a w) (v : WellFormed a
           let z : colour a i w ≤ 0 = omega (arith, m.1) in
           pops i q.1 q.2
           (sym
-          (lt_yes 0 (head a w) (take_head a (head a w - 1) c n w) (take_fresh a (fresh a w) c n w) (Slot i (gen a i w), popped a i c n w) p
+          (lt_yes 0 (head a w) (take_head a (head a w - 1) c n w) (take_fresh a (fresh a w) c n w) (Ok (i, gen a i w), popped a i c n w) p
           (rw k
-          (le_no (used a w) i (no_room a w, w) (if_lt 0 (colour a i w) (no_room a w, w) (Slot i (gen a i w), popped a i c n w)) _ l
-          (lt_no 0 (colour a i w) (no_room a w, w) (Slot i (gen a i w), popped a i c n w) _ z refl)))))
+          (le_no (used a w) i (no_room a w, w) (if_lt 0 (colour a i w) (no_room a w, w) (Ok (i, gen a i w), popped a i c n w)) _ l
+          (lt_no 0 (colour a i w) (no_room a w, w) (Ok (i, gen a i w), popped a i c n w) _ z refl)))))
 
       empty : head a w ≤ 0 → Takes
       empty p = ⊎_elim (λ l. none l) (λ l. new l) (le_or_lt a.slots (fresh a w))
@@ -96,9 +100,9 @@ module _ (a : Arena) (c n : ℕ) (w : List ℕ) (r : Room a w) (v : WellFormed a
               let z : colour a i w ≤ 0 = omega (arith, v.unused i (omega arith) l) in
               opens nil l
               (sym
-              (lt_no 0 (head a w) (take_head a (head a w - 1) c n w) (take_fresh a (fresh a w) c n w) (Slot i 0, opened a i c n w) p
-              (le_no a.slots i (no_room a w, w) (if_lt 0 (colour a i w) (no_room a w, w) (Slot i 0, opened a i c n w)) _ l
-              (lt_no 0 (colour a i w) (no_room a w, w) (Slot i 0, opened a i c n w) _ z refl))))
+              (lt_no 0 (head a w) (take_head a (head a w - 1) c n w) (take_fresh a (fresh a w) c n w) (Ok (i, 0), opened a i c n w) p
+              (le_no a.slots i (no_room a w, w) (if_lt 0 (colour a i w) (no_room a w, w) (Ok (i, 0), opened a i c n w)) _ l
+              (lt_no 0 (colour a i w) (no_room a w, w) (Ok (i, 0), opened a i c n w) _ z refl))))
 
           none : a.slots ≤ fresh a w → Takes
           none l =
@@ -111,9 +115,9 @@ module _ (a : Arena) (c n : ℕ) (w : List ℕ) (r : Room a w) (v : WellFormed a
               let i : ℕ = fresh a w in
               fills
               (sym
-              (lt_no 0 (head a w) (take_head a (head a w - 1) c n w) (take_fresh a (fresh a w) c n w) (Full, w) p
-              (le_yes a.slots i (no_room a w, w) (if_lt 0 (colour a i w) (no_room a w, w) (Slot i 0, opened a i c n w)) (Full, w) l
-              (ap (λ (t : Took). (t, w)) (lt_no (occupied a w) a.slots Damaged Full Full all refl)))))
+              (lt_no 0 (head a w) (take_head a (head a w - 1) c n w) (take_fresh a (fresh a w) c n w) (Err NoneFree, w) p
+              (le_yes a.slots i (no_room a w, w) (if_lt 0 (colour a i w) (no_room a w, w) (Ok (i, 0), opened a i c n w)) (Err NoneFree, w) l
+              (ap (λ (t : Result (ℕ × ℕ) Untaken). (t, w)) (lt_no (occupied a w) a.slots (Err Broken) (Err NoneFree) (Err NoneFree) all refl)))))
               (λ j q. omega (arith, every j q))
 
   -- the head of the chain is a slot made
@@ -201,32 +205,32 @@ module _ (a : Arena) (c n : ℕ) (w : List ℕ) (r : Room a w) (v : WellFormed a
   -- The answer names a slot that was made, or it is that all slots are full: then nothing changed and every slot is occupied.
   -- So in a well-formed arena it is never that the arena is damaged.
   pub take-answers :
-      ((i : ℕ) × (g : ℕ) × ((take_slot a c n w).0 ≡ Slot i g) × Made a c n w (take_slot a c n w).1 i g)
-      ⊎ ((take_slot a c n w ≡ (Full, w)) × ((i : ℕ) → i < a.slots → 0 < colour a i w))
+      ((i : ℕ) × (g : ℕ) × ((take_slot a c n w).0 ≡ Ok (i, g)) × Made a c n w (take_slot a c n w).1 i g)
+      ⊎ ((take_slot a c n w ≡ (Err NoneFree, w)) × ((i : ℕ) → i < a.slots → 0 < colour a i w))
   take-answers = go take_cases
     where
       go : Takes →
-          ((i : ℕ) × (g : ℕ) × ((take_slot a c n w).0 ≡ Slot i g) × Made a c n w (take_slot a c n w).1 i g)
-          ⊎ ((take_slot a c n w ≡ (Full, w)) × ((i : ℕ) → i < a.slots → 0 < colour a i w))
+          ((i : ℕ) × (g : ℕ) × ((take_slot a c n w).0 ≡ Ok (i, g)) × Made a c n w (take_slot a c n w).1 i g)
+          ⊎ ((take_slot a c n w ≡ (Err NoneFree, w)) × ((i : ℕ) → i < a.slots → 0 < colour a i w))
       go (pops i rest e q) = inl (i, gen a i w, ap (λ x. x.0) q, subst (λ (u : List ℕ). Made a c n w u i (gen a i w)) (sym (ap (λ x. x.1) q)) (pop_made i rest e))
       go (opens e l q) = inl (fresh a w, 0, ap (λ x. x.0) q, subst (λ (u : List ℕ). Made a c n w u (fresh a w) 0) (sym (ap (λ x. x.1) q)) (open_made l))
       go (fills q every) = inr (q, every)
 
   -- what is taken was made
-  pub take_made : (i g : ℕ) → (take_slot a c n w).0 ≡ Slot i g → Made a c n w (take_slot a c n w).1 i g
+  pub take_made : (i g : ℕ) → (take_slot a c n w).0 ≡ Ok (i, g) → Made a c n w (take_slot a c n w).1 i g
   take_made i g e = ⊎_elim (λ q. made q) (λ q. absurd (never q.0)) take-answers
     where
-      never : take_slot a c n w ≡ (Full, w) → ⊥
+      never : take_slot a c n w ≡ (Err NoneFree, w) → ⊥
       never q =
-          let p : Slot i g ≡ Full = sym e ∙ ap (λ x. x.0) q in
+          let p : Ok (i, g) ≡ Err NoneFree = sym e ∙ ap (λ x. x.0) q in
           let z : ◌≡◌ {A = ℕ} 0 1 = cc in
           omega arith
 
-      made : ((j : ℕ) × (h : ℕ) × ((take_slot a c n w).0 ≡ Slot j h) × Made a c n w (take_slot a c n w).1 j h) → Made a c n w (take_slot a c n w).1 i g
+      made : ((j : ℕ) × (h : ℕ) × ((take_slot a c n w).0 ≡ Ok (j, h)) × Made a c n w (take_slot a c n w).1 j h) → Made a c n w (take_slot a c n w).1 i g
       made q =
-          let p : Slot q.0 q.1 ≡ Slot i g = sym q.2 ∙ e in
-          let x : q.0 ≡ i = cc in
-          let y : q.1 ≡ g = cc in
+          let p : Ok (q.0, q.1) ≡ Ok (i, g) = sym q.2 ∙ e in
+          let x : q.0 ≡ i = ap (λ r. (slot_in r).0) p in
+          let y : q.1 ≡ g = ap (λ r. (slot_in r).1) p in
           subst (λ (j : ℕ). Made a c n w (take_slot a c n w).1 j g) x (subst (λ (h : ℕ). Made a c n w (take_slot a c n w).1 q.0 h) y q.3)
 
   -- the words after are well-formed
@@ -234,6 +238,6 @@ module _ (a : Arena) (c n : ℕ) (w : List ℕ) (r : Room a w) (v : WellFormed a
   take_keeps = ⊎_elim (λ q. q.3.keeps) (λ q. subst (λ (u : List ℕ). WellFormed a u) (sym (ap (λ x. x.1) q.0)) v) take-answers
 
   -- every handle other than the answer names after what it named before
-  pub take_others : (i g : ℕ) → (take_slot a c n w).0 ≡ Slot i g
+  pub take_others : (i g : ℕ) → (take_slot a c n w).0 ≡ Ok (i, g)
       → (j h : ℕ) → ((j ≡ i) × (h ≡ g) → ⊥) → named a j h (take_slot a c n w).1 ≡ named a j h w
   take_others i g e j h d = (take_made i g e).others j h d

@@ -5,7 +5,7 @@
 
 ghost use Rattle.std.specs.Prelude.{◌≤◌, ◌<◌, length};
 
-use arena::{Arena, Freed, Named, Took};
+use arena::{Arena, Untaken};
 use lines::{line_end, number_at, read_full};
 use std::io;
 
@@ -29,14 +29,14 @@ fn say_number(rt: &impl Print, n: u64) -> io::Result<()> {
 
 fn take(rt: &impl Print, w: &mut [u32; 147], colour: u32) -> io::Result<()> {
     match arena::take_slot(w, PLACE, colour, 2) {
-        Took::Slot(i, g) => {
+        Ok((i, g)) => {
             say(rt, b"slot ")?;
             say_number(rt, i as u64)?;
             say(rt, b" ")?;
             say_number(rt, g as u64)
         }
-        Took::Full => say(rt, b"refused 3"),
-        Took::Damaged => say(rt, b"refused 8"),
+        Err(Untaken::NoneFree) => say(rt, b"refused 3"),
+        Err(Untaken::Broken) => say(rt, b"refused 8"),
     }
 }
 
@@ -48,8 +48,8 @@ fn free(
     generation: u32,
 ) -> io::Result<()> {
     match arena::free(w, b, PLACE, index, generation) {
-        Freed::Done => say(rt, b"done"),
-        Freed::Refused(_) => say(rt, b"refused 2"),
+        Ok(()) => say(rt, b"done"),
+        Err(_) => say(rt, b"refused 2"),
     }
 }
 
@@ -60,13 +60,11 @@ fn paint(
     generation: u32,
     colour: u32,
 ) -> io::Result<()> {
-    match arena::name_of(w, PLACE, index, generation) {
-        Named::At(i) => {
-            arena::set_colour(w, PLACE, i, colour);
-            say(rt, b"done")
-        }
-        Named::Stale => say(rt, b"refused 2"),
-    }
+    let Some(i) = arena::name_of(w, PLACE, index, generation) else {
+        return say(rt, b"refused 2");
+    };
+    arena::set_colour(w, PLACE, i, colour);
+    say(rt, b"done")
 }
 
 fn say_swept(rt: &impl Print, freed: u64, next: u64, done: bool) -> io::Result<()> {
@@ -113,11 +111,8 @@ fn say_slot(rt: &impl Print, w: &[u32; 147], i: usize) -> io::Result<()>
 }
 
 fn say_slots(rt: &impl Print, w: &[u32; 147]) -> io::Result<()> {
-    let end = arena::used_of(w, PLACE);
-    let mut i: usize = 0;
-    while i < end {
+    for i in 0..arena::used_of(w, PLACE) {
         say_slot(rt, w, i)?;
-        i += 1;
     }
     Ok(())
 }
@@ -125,18 +120,13 @@ fn say_slots(rt: &impl Print, w: &[u32; 147]) -> io::Result<()> {
 // The chain from its head, at most 24 slots of it.
 fn say_chain(rt: &impl Print, w: &[u32; 147]) -> io::Result<()> {
     let mut x = base::wide(arena::head_of(w, PLACE));
-    let mut k: usize = 0;
-    while k < 24 {
-        if x == 0 {
-            return Ok(());
-        }
-        if 24 < x {
+    for _ in 0..24 {
+        if x == 0 || 24 < x {
             return Ok(());
         }
         say(rt, b" ")?;
         say_number(rt, (x - 1) as u64)?;
         x = base::wide(arena::link_of(w, PLACE, x - 1));
-        k += 1;
     }
     Ok(())
 }

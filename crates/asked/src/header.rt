@@ -3,235 +3,168 @@ ghost use Rattle.std.specs.Prelude.{◌≡◌};
 ghost use Rattle.base.specs.Heap.{heap};
 ghost use Rattle.asked.specs.Header.{counter_of, ask_counter, size_of, ask_size, root_of, ask_root, main_of, ask_main, which_of, listed_of, ask_list, kind_of, slots_of, ask_arena};
 
+use crate::ask;
+use base::Refusal;
 use part_reads::{Listed, Main, Slots, Which};
 use reads::{Counter, Kind, Read, Root, Size};
 
-// What a number asks, or that it asks nothing: one for each question.
-#[derive(Clone, Copy)]
-pub enum CounterOr {
-    Unknown,
-    Known(Counter),
-}
-
-#[derive(Clone, Copy)]
-pub enum SizeOr {
-    Unknown,
-    Known(Size),
-}
-
-#[derive(Clone, Copy)]
-pub enum RootOr {
-    Unknown,
-    Known(Root),
-}
-
-#[derive(Clone, Copy)]
-pub enum MainOr {
-    Unknown,
-    Known(Main),
-}
-
-#[derive(Clone, Copy)]
-pub enum WhichOr {
-    Unknown,
-    Known(Which),
-}
-
-#[derive(Clone, Copy)]
-pub enum ListedOr {
-    Unknown,
-    Known(Listed),
-}
-
-#[derive(Clone, Copy)]
-pub enum KindOr {
-    Unknown,
-    Known(Kind),
-}
-
-#[derive(Clone, Copy)]
-pub enum SlotsOr {
-    Unknown,
-    Known(Slots),
-}
-
-pub fn counter_of(n: u32) -> CounterOr
+pub fn counter_of(n: u32) -> Option<Counter>
     ensures { result ≡ counter_of n }
 {
     match n {
-        0 => CounterOr::Known(Counter::Prototypes),
-        1 => CounterOr::Known(Counter::Limit),
-        2 => CounterOr::Known(Counter::Pause),
-        3 => CounterOr::Known(Counter::Stepmul),
-        4 => CounterOr::Known(Counter::Creation),
-        5 => CounterOr::Known(Counter::Phase),
-        6 => CounterOr::Known(Counter::White),
-        7 => CounterOr::Known(Counter::CursorArena),
-        8 => CounterOr::Known(Counter::CursorSlot),
-        9 => CounterOr::Known(Counter::Total),
-        10 => CounterOr::Known(Counter::Peak),
-        11 => CounterOr::Known(Counter::Estimate),
-        12 => CounterOr::Known(Counter::Threshold),
-        13 => CounterOr::Known(Counter::Debt),
-        14 => CounterOr::Known(Counter::Interrupted),
-        15 => CounterOr::Known(Counter::Remaining),
-        _ => CounterOr::Unknown,
+        0 => Some(Counter::Prototypes),
+        1 => Some(Counter::Limit),
+        2 => Some(Counter::Pause),
+        3 => Some(Counter::Stepmul),
+        4 => Some(Counter::Creation),
+        5 => Some(Counter::Phase),
+        6 => Some(Counter::White),
+        7 => Some(Counter::CursorArena),
+        8 => Some(Counter::CursorSlot),
+        9 => Some(Counter::Total),
+        10 => Some(Counter::Peak),
+        11 => Some(Counter::Estimate),
+        12 => Some(Counter::Threshold),
+        13 => Some(Counter::Debt),
+        14 => Some(Counter::Interrupted),
+        15 => Some(Counter::Remaining),
+        _ => None,
     }
 }
 
-pub fn size_of(n: u32) -> SizeOr
+pub fn size_of(n: u32) -> Option<Size>
     ensures { result ≡ size_of n }
 {
     match n {
-        0 => SizeOr::Known(Size::Strings),
-        1 => SizeOr::Known(Size::Tables),
-        2 => SizeOr::Known(Size::Functions),
-        3 => SizeOr::Known(Size::Upvalues),
-        4 => SizeOr::Known(Size::Userdata),
-        5 => SizeOr::Known(Size::Threads),
-        6 => SizeOr::Known(Size::Prototypes),
-        7 => SizeOr::Known(Size::Stack),
-        8 => SizeOr::Known(Size::Opens),
-        9 => SizeOr::Known(Size::Frames),
-        _ => SizeOr::Unknown,
+        0 => Some(Size::Strings),
+        1 => Some(Size::Tables),
+        2 => Some(Size::Functions),
+        3 => Some(Size::Upvalues),
+        4 => Some(Size::Userdata),
+        5 => Some(Size::Threads),
+        6 => Some(Size::Prototypes),
+        7 => Some(Size::Stack),
+        8 => Some(Size::Opens),
+        9 => Some(Size::Frames),
+        _ => None,
     }
 }
 
-pub fn root_of(n: u32, k: u32) -> RootOr
+pub fn root_of(n: u32, k: u32) -> Option<Root>
     ensures { result ≡ root_of n k }
 {
     match n {
-        0 => RootOr::Known(Root::Global),
-        1 => RootOr::Known(Root::Registry),
-        2 => RootOr::Known(Root::Mode),
-        3 => RootOr::Known(Root::Gc),
-        4 => RootOr::Known(Root::Type(k)),
-        _ => RootOr::Unknown,
+        0 => Some(Root::Global),
+        1 => Some(Root::Registry),
+        2 => Some(Root::Mode),
+        3 => Some(Root::Gc),
+        4 => Some(Root::Type(k)),
+        _ => None,
     }
 }
 
-pub fn main_of(n: u32, i: u32) -> MainOr
+pub fn main_of(n: u32, i: u32) -> Option<Main>
     ensures { result ≡ main_of n i }
 {
     match n {
-        0 => MainOr::Known(Main::Top),
-        1 => MainOr::Known(Main::Opens),
-        2 => MainOr::Known(Main::Ci),
-        3 => MainOr::Known(Main::Error),
-        4 => MainOr::Known(Main::Hook),
-        5 => MainOr::Known(Main::Stack(i)),
-        6 => MainOr::Known(Main::Open(i)),
-        7 => MainOr::Known(Main::Frame(i)),
-        _ => MainOr::Unknown,
+        0 => Some(Main::Top),
+        1 => Some(Main::Opens),
+        2 => Some(Main::Ci),
+        3 => Some(Main::Error),
+        4 => Some(Main::Hook),
+        5 => Some(Main::Stack(i)),
+        6 => Some(Main::Open(i)),
+        7 => Some(Main::Frame(i)),
+        _ => None,
     }
 }
 
-pub fn which_of(n: u32) -> WhichOr
+pub fn which_of(n: u32) -> Option<Which>
     ensures { result ≡ which_of n }
 {
     match n {
-        0 => WhichOr::Known(Which::Gray),
-        1 => WhichOr::Known(Which::Grayagain),
-        2 => WhichOr::Known(Which::Weak),
-        3 => WhichOr::Known(Which::Queue),
-        _ => WhichOr::Unknown,
+        0 => Some(Which::Gray),
+        1 => Some(Which::Grayagain),
+        2 => Some(Which::Weak),
+        3 => Some(Which::Queue),
+        _ => None,
     }
 }
 
-pub fn listed_of(n: u32, i: u32) -> ListedOr
+pub fn listed_of(n: u32, i: u32) -> Option<Listed>
     ensures { result ≡ listed_of n i }
 {
     match n {
-        0 => ListedOr::Known(Listed::Length),
-        1 => ListedOr::Known(Listed::At(i)),
-        _ => ListedOr::Unknown,
+        0 => Some(Listed::Length),
+        1 => Some(Listed::At(i)),
+        _ => None,
     }
 }
 
-pub fn kind_of(n: u32) -> KindOr
+pub fn kind_of(n: u32) -> Option<Kind>
     ensures { result ≡ kind_of n }
 {
     match n {
-        0 => KindOr::Known(Kind::Strings),
-        1 => KindOr::Known(Kind::Tables),
-        2 => KindOr::Known(Kind::Functions),
-        3 => KindOr::Known(Kind::Upvalues),
-        4 => KindOr::Known(Kind::Userdata),
-        5 => KindOr::Known(Kind::Threads),
-        _ => KindOr::Unknown,
+        0 => Some(Kind::Strings),
+        1 => Some(Kind::Tables),
+        2 => Some(Kind::Functions),
+        3 => Some(Kind::Upvalues),
+        4 => Some(Kind::Userdata),
+        5 => Some(Kind::Threads),
+        _ => None,
     }
 }
 
-pub fn slots_of(n: u32, i: u32) -> SlotsOr
+pub fn slots_of(n: u32, i: u32) -> Option<Slots>
     ensures { result ≡ slots_of n i }
 {
     match n {
-        0 => SlotsOr::Known(Slots::Head),
-        1 => SlotsOr::Known(Slots::Fresh),
-        2 => SlotsOr::Known(Slots::Count),
-        3 => SlotsOr::Known(Slots::Generation(i)),
-        4 => SlotsOr::Known(Slots::Colour(i)),
-        5 => SlotsOr::Known(Slots::Link(i)),
-        _ => SlotsOr::Unknown,
+        0 => Some(Slots::Head),
+        1 => Some(Slots::Fresh),
+        2 => Some(Slots::Count),
+        3 => Some(Slots::Generation(i)),
+        4 => Some(Slots::Colour(i)),
+        5 => Some(Slots::Link(i)),
+        _ => None,
     }
 }
 
-pub fn ask_counter(w: &[u32], b: &[u8], n: u32) -> Read
+pub fn ask_counter(w: &[u32], b: &[u8], n: u32) -> Result<Read, Refusal>
     ensures { result ≡ ask_counter n (heap w.now b.now) }
 {
-    match counter_of(n) {
-        CounterOr::Known(q) => reads::read_counter(w, b, q),
-        CounterOr::Unknown => codes::no_question(w, b),
-    }
+    ask(w, b, counter_of(n), |q| reads::read_counter(w, b, q))
 }
 
-pub fn ask_size(w: &[u32], b: &[u8], n: u32) -> Read
+pub fn ask_size(w: &[u32], b: &[u8], n: u32) -> Result<Read, Refusal>
     ensures { result ≡ ask_size n (heap w.now b.now) }
 {
-    match size_of(n) {
-        SizeOr::Known(q) => reads::read_size(w, b, q),
-        SizeOr::Unknown => codes::no_question(w, b),
-    }
+    ask(w, b, size_of(n), |q| reads::read_size(w, b, q))
 }
 
-pub fn ask_root(w: &[u32], b: &[u8], n: u32, k: u32) -> Read
+pub fn ask_root(w: &[u32], b: &[u8], n: u32, k: u32) -> Result<Read, Refusal>
     ensures { result ≡ ask_root n k (heap w.now b.now) }
 {
-    match root_of(n, k) {
-        RootOr::Known(q) => reads::read_root(w, b, q),
-        RootOr::Unknown => codes::no_question(w, b),
-    }
+    ask(w, b, root_of(n, k), |q| reads::read_root(w, b, q))
 }
 
-pub fn ask_main(w: &[u32], b: &[u8], n: u32, i: u32) -> Read
+pub fn ask_main(w: &[u32], b: &[u8], n: u32, i: u32) -> Result<Read, Refusal>
     ensures { result ≡ ask_main n i (heap w.now b.now) }
 {
-    match main_of(n, i) {
-        MainOr::Known(q) => part_reads::read_main(w, b, q),
-        MainOr::Unknown => codes::no_question(w, b),
-    }
+    ask(w, b, main_of(n, i), |q| part_reads::read_main(w, b, q))
 }
 
-pub fn ask_list(w: &[u32], b: &[u8], l: u32, n: u32, i: u32) -> Read
+pub fn ask_list(w: &[u32], b: &[u8], l: u32, n: u32, i: u32) -> Result<Read, Refusal>
     ensures { result ≡ ask_list l n i (heap w.now b.now) }
 {
-    match which_of(l) {
-        WhichOr::Known(which) => match listed_of(n, i) {
-            ListedOr::Known(q) => part_reads::read_list(w, b, which, q),
-            ListedOr::Unknown => codes::no_question(w, b),
-        },
-        WhichOr::Unknown => codes::no_question(w, b),
-    }
+    ask(w, b, which_of(l).zip(listed_of(n, i)), |(l, q)| {
+        part_reads::read_list(w, b, l, q)
+    })
 }
 
-pub fn ask_arena(w: &[u32], b: &[u8], a: u32, n: u32, i: u32) -> Read
+pub fn ask_arena(w: &[u32], b: &[u8], a: u32, n: u32, i: u32) -> Result<Read, Refusal>
     ensures { result ≡ ask_arena a n i (heap w.now b.now) }
 {
-    match kind_of(a) {
-        KindOr::Known(k) => match slots_of(n, i) {
-            SlotsOr::Known(q) => part_reads::read_arena(w, b, k, q),
-            SlotsOr::Unknown => codes::no_question(w, b),
-        },
-        KindOr::Unknown => codes::no_question(w, b),
-    }
+    ask(w, b, kind_of(a).zip(slots_of(n, i)), |(k, q)| {
+        part_reads::read_arena(w, b, k, q)
+    })
 }

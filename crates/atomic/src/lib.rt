@@ -4,18 +4,16 @@
 
 ghost use Rattle.std.specs.Prelude.{◌≡◌, ◌+◌, ◌≤◌, ◌<◌, length};
 ghost use Rattle.layout.specs.Layout.{lay_of};
-ghost use Rattle.laid.specs.Laid.{Laid};
 ghost use Rattle.atomic.specs.Atomic.{again_item, again_listed, again_all, marked, finished, flipped, begun, atomic};
 
-use layout::Sizes;
+use layout::Plan;
 use lists::Item;
 
 // An item is traversed once more, a thread without its hook. The main thread was followed before.
-fn again_item(w: &mut [u32], b: &[u8], l: Sizes, x: Item)
-    requires laid { Laid (lay_of l) }
-    requires l_in_bounds { (lay_of l).words ≤ length w.old }
-    requires l_in_bounds_2 { (lay_of l).bytes ≤ length b.now }
-    ensures { w.new ≡ again_item (lay_of l) b.now x w.old }
+fn again_item(w: &mut [u32], b: &[u8], l: Plan, x: Item)
+    requires l_in_bounds { (lay_of l.sizes).words ≤ length w.old }
+    requires l_in_bounds_2 { (lay_of l.sizes).bytes ≤ length b.now }
+    ensures { w.new ≡ again_item (lay_of l.sizes) b.now x w.old }
 {
     match x {
         Item::Thread(r) => run_walk::threads::retraverse_thread(w, l, r),
@@ -25,37 +23,32 @@ fn again_item(w: &mut [u32], b: &[u8], l: Sizes, x: Item)
     }
 }
 
-fn again_listed(w: &mut [u32], b: &[u8], l: Sizes, k: usize)
-    requires laid { Laid (lay_of l) }
-    requires l_in_bounds { (lay_of l).words ≤ length w.old }
-    requires l_in_bounds_2 { (lay_of l).bytes ≤ length b.now }
-    ensures { w.new ≡ again_listed (lay_of l) b.now k w.old }
+fn again_listed(w: &mut [u32], b: &[u8], l: Plan, k: usize)
+    requires l_in_bounds { (lay_of l.sizes).words ≤ length w.old }
+    requires l_in_bounds_2 { (lay_of l.sizes).bytes ≤ length b.now }
+    ensures { w.new ≡ again_listed (lay_of l.sizes) b.now k w.old }
 {
     let x = lists::item_at(w, layout::grayagain_of(l), k);
     again_item(w, b, l, x);
 }
 
 // Grayagain in order. Nothing is put on it meanwhile; it is empty when the propagation begins that may list threads again.
-fn again_all(w: &mut [u32], b: &[u8], l: Sizes)
-    requires laid { Laid (lay_of l) }
-    requires l_in_bounds { (lay_of l).words ≤ length w.old }
-    requires l_in_bounds_2 { (lay_of l).bytes ≤ length b.now }
-    ensures { w.new ≡ again_all (lay_of l) b.now w.old }
+fn again_all(w: &mut [u32], b: &[u8], l: Plan)
+    requires l_in_bounds { (lay_of l.sizes).words ≤ length w.old }
+    requires l_in_bounds_2 { (lay_of l.sizes).bytes ≤ length b.now }
+    ensures { w.new ≡ again_all (lay_of l.sizes) b.now w.old }
 {
     let n = lists::length_of(w, layout::grayagain_of(l));
-    let mut k: usize = 0;
-    while k < n {
+    for k in 0..n {
         again_listed(w, b, l, k);
-        k += 1;
     }
 }
 
 // All that is reached is marked.
-fn mark_all(w: &mut [u32], b: &[u8], l: Sizes)
-    requires laid { Laid (lay_of l) }
-    requires l_in_bounds { (lay_of l).words ≤ length w.old }
-    requires l_in_bounds_2 { (lay_of l).bytes ≤ length b.now }
-    ensures { w.new ≡ marked (lay_of l) b.now w.old }
+fn mark_all(w: &mut [u32], b: &[u8], l: Plan)
+    requires l_in_bounds { (lay_of l.sizes).words ≤ length w.old }
+    requires l_in_bounds_2 { (lay_of l.sizes).bytes ≤ length b.now }
+    ensures { w.new ≡ marked (lay_of l.sizes) b.now w.old }
 {
     run_walk::main_thread::mark_main(w, l);
     again_all(w, b, l);
@@ -64,11 +57,10 @@ fn mark_all(w: &mut [u32], b: &[u8], l: Sizes)
 }
 
 // Due userdata and what they reach: how many there are.
-fn finish_marking(w: &mut [u32], b: &[u8], l: Sizes) -> usize
-    requires laid { Laid (lay_of l) }
-    requires l_in_bounds { (lay_of l).words ≤ length w.old }
-    requires l_in_bounds_2 { (lay_of l).bytes ≤ length b.now }
-    ensures { ((result, w.new) ≡ finished (lay_of l) b.now w.old) × (result ≤ 4096) }
+fn finish_marking(w: &mut [u32], b: &[u8], l: Plan) -> usize
+    requires l_in_bounds { (lay_of l.sizes).words ≤ length w.old }
+    requires l_in_bounds_2 { (lay_of l.sizes).bytes ≤ length b.now }
+    ensures { ((result, w.new) ≡ finished (lay_of l.sizes) b.now w.old) × (result ≤ 4096) }
 {
     let n = separate::separate_userdata(w, l);
     separate::mark_tmudata(w, l);
@@ -77,11 +69,10 @@ fn finish_marking(w: &mut [u32], b: &[u8], l: Sizes) -> usize
 }
 
 // The white flips, and the weak tables are cleared by it.
-fn flip(w: &mut [u32], b: &[u8], l: Sizes)
-    requires laid { Laid (lay_of l) }
-    requires l_in_bounds { (lay_of l).words ≤ length w.old }
-    requires l_in_bounds_2 { (lay_of l).bytes ≤ length b.now }
-    ensures { w.new ≡ flipped (lay_of l) b.now w.old }
+fn flip(w: &mut [u32], b: &[u8], l: Plan)
+    requires l_in_bounds { (lay_of l.sizes).words ≤ length w.old }
+    requires l_in_bounds_2 { (lay_of l.sizes).bytes ≤ length b.now }
+    ensures { w.new ≡ flipped (lay_of l.sizes) b.now w.old }
 {
     let old = base::get(w, layout::WHITE);
     let white = mark::other_white(old);
@@ -103,11 +94,10 @@ fn begin_sweep(w: &mut [u32], n: usize)
 }
 
 // The whole step.
-pub fn atomic(w: &mut [u32], b: &[u8], l: Sizes)
-    requires laid { Laid (lay_of l) }
-    requires l_in_bounds { (lay_of l).words ≤ length w.old }
-    requires l_in_bounds_2 { (lay_of l).bytes ≤ length b.now }
-    ensures { w.new ≡ atomic (lay_of l) b.now w.old }
+pub fn atomic(w: &mut [u32], b: &[u8], l: Plan)
+    requires l_in_bounds { (lay_of l.sizes).words ≤ length w.old }
+    requires l_in_bounds_2 { (lay_of l.sizes).bytes ≤ length b.now }
+    ensures { w.new ≡ atomic (lay_of l.sizes) b.now w.old }
 {
     mark_all(w, b, l);
     let n = finish_marking(w, b, l);

@@ -2,11 +2,10 @@
 -- finalized marks: words that agree there have the same. Assumes nothing.
 --     alike_back      two words that agree on all that, the other way round
 --     reached_alike, due_alike, kept_alike, spared_alike
-use Rattle.std.specs.Prelude.{◌≡◌, ℕ, ◌≤◌, ◌<◌, ltb}
+use Rattle.std.specs.Prelude.{◌≡◌, ℕ, ◌≤◌, ◌<◌, ltb, Option}
 use Rattle.std.proofs.Common.{sym, ap, subst, ◌∙◌, inl, inr, arith}
 use mathlib.Core.List.{List, Memᴰ}
 use Rattle.value.specs.declared.TableRef.{TableRef}
-use Rattle.value.specs.declared.TableOr.{TableOr}
 use Rattle.value.specs.Values.{is_nil}
 use Rattle.layout.specs.declared.Lay.{Lay}
 use Rattle.record.specs.Fields.{body_at}
@@ -76,7 +75,7 @@ due_alike {l} one b {w} {u} s x d = record {
   occupied = occupied_alike one b s x d.occupied;
   unfinalized = ap (λ (n : ℕ). ltb 0 n) (s.marks x.at within) ∙ d.unfinalized;
   method =
-      ap (λ (t : TableOr). is_nil (gc_method l t u)) (table_same (s.reads.userdata x.at within) (body_at l.userdata x.at) (omega arith) (omega arith))
+      ap (λ (t : Option TableRef). is_nil (gc_method l t u)) (table_same (s.reads.userdata x.at within) (body_at l.userdata x.at) (omega arith) (omega arith))
       ∙ ap is_nil (gc_method_same s.reads (ud_meta (body_at l.userdata x.at) w))
       ∙ d.method;
   unreached = λ h. d.unreached (reached_alike one b (alike_back s) x h);
@@ -108,5 +107,5 @@ spared_alike {l} one b {w} {u} s x d = record {
 
     mode : (t : TableRef) → t.0 < l.tables.slots → weak_mode l (table_meta (body_at l.tables t.0) u) u b ≡ weak_mode l (table_meta (body_at l.tables t.0) w) w b
     mode t h =
-        ap (λ (m : TableOr). weak_mode l m u b) (table_same (s.reads.tables t.0 h) (body_at l.tables t.0) (omega arith) (omega arith))
+        ap (λ (m : Option TableRef). weak_mode l m u b) (table_same (s.reads.tables t.0 h) (body_at l.tables t.0) (omega arith) (omega arith))
         ∙ weak_mode_same s.reads b (table_meta (body_at l.tables t.0) w)

@@ -5,16 +5,16 @@
 --     shade_apart                a handle is due's and gray, or it has its colour
 --     links_back, occupied_back, reach_back     links, occupied slots and what is reached are the same in w and v
 --     separated_ok               the tri-colour invariant after separation
-use Rattle.std.specs.Prelude.{◌≡◌, refl, Bool, true, false, cond, ◌⊎◌, ◌↔◌, ℕ, min, ◌+◌, ◌≤◌, ◌<◌, eqb, ltb, length}
+use Rattle.std.specs.Prelude.{◌≡◌, refl, Bool, true, false, cond, ◌⊎◌, ◌↔◌, ℕ, min, ◌+◌, ◌≤◌, ◌<◌, eqb, ltb, length, Option}
 use Rattle.std.proofs.Common.{sym, ap, subst, ◌∙◌, true≢false, inl, inr, ⊎_elim, arith, eqb-true}
 use mathlib.Core.List.Memᴰ
 use mathlib.Core.List.{List, [], Memᴰ}
 use Rattle.std.proofs.Math.Decide.{dec_lt, ℕ_discrete}
 use Rattle.base.specs.Ways.{if_eq, eq_yes, le_no}
 use Rattle.base.specs.Words.{at}
+use Rattle.value.specs.declared.TableRef.{TableRef}
 use Rattle.arena.specs.declared.Arena.{Arena}
 use Rattle.arena.specs.Slots.{known, colour, gen, used}
-use Rattle.value.specs.declared.TableOr.{TableOr}
 use Rattle.value.specs.Values.{is_nil}
 use Rattle.layout.specs.declared.Lay.{Lay}
 use Rattle.layout.specs.Places.{WHITE}
@@ -111,7 +111,7 @@ module _ (l : Lay) (ok : Laid l) (a : Apart l) (am : Ample l) (y : Bodies l) (w 
 
   same_method : (i : ℕ) → is_nil (gc_method l (ud_meta (body_at l.userdata i) u) u) ≡ is_nil (gc_method l (ud_meta (body_at l.userdata i) w) w)
   same_method i =
-      ap (λ (t : TableOr). is_nil (gc_method l t u)) (table_stays o c.marked (body_at l.userdata i) (inr (omega (arith, o.past_userdata))))
+      ap (λ (t : Option TableRef). is_nil (gc_method l t u)) (table_stays o c.marked (body_at l.userdata i) (inr (omega (arith, o.past_userdata))))
       ∙ ap is_nil (gc_method_stays o c.marked (ud_meta (body_at l.userdata i) w))
 
   -- A slot that separation finds due holds a due userdata.

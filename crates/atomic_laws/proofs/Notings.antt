@@ -3,7 +3,7 @@
 --     weak-back                 modes are the same before the collection and after separation
 --     finished_noted            separation and what the due reach
 --     weak_kept, kept_weak      the tables on the weak list are exactly the weak ones that are kept
-use Rattle.std.specs.Prelude.{◌≡◌, refl}
+use Rattle.std.specs.Prelude.{◌≡◌, refl, Option}
 use Rattle.std.proofs.Math.Path.{sym, subst}
 use Rattle.std.proofs.Common.{ap, ◌∙◌, inl, inr, ⊎_elim, arith}
 use mathlib.Core.List.{List, [], ◌++◌}
@@ -16,7 +16,6 @@ use Rattle.base.specs.Words.{at}
 use Rattle.arena.specs.Slots.{used}
 use Rattle.value.specs.declared.TableRef.{TableRef}
 use Rattle.value.specs.declared.UdRef.{UdRef}
-use Rattle.value.specs.declared.TableOr.{TableOr}
 use Rattle.layout.specs.declared.Lay.{Lay}
 use Rattle.layout.specs.Places.{WHITE}
 use Rattle.lists.specs.declared.Item.{Item}
@@ -177,7 +176,7 @@ module _ (l : Lay) (ok : Laid l) (a : Apart l) (am : Ample l) (y : Bodies l) (w 
     where
       step : (x x' : List ℕ) → Reads l x' x → weak_mode l (table_meta (body_at l.tables t.0) x) x b ≡ weak_mode l (table_meta (body_at l.tables t.0) x') x' b
       step x x' r =
-          ap (λ (m : TableOr). weak_mode l m x b) (table_same (r.tables t.0 h) (body_at l.tables t.0) (omega arith) (omega arith))
+          ap (λ (m : Option TableRef). weak_mode l m x b) (table_same (r.tables t.0 h) (body_at l.tables t.0) (omega arith) (omega arith))
           ∙ weak_mode_same r b (table_meta (body_at l.tables t.0) x')
 
   -- a table that has a colour lies below the slots

@@ -4,13 +4,12 @@
 --     shade_held, named_held    the handles of all kinds but userdata
 --     Flags, flags_reads        words past the boundary that differ at most in finalized marks; links are the same
 --     marked_reads              marking leaves all that is read
-use Rattle.std.specs.Prelude.{◌≡◌, List, ◌≢◌, ℕ, zero, suc, ◌+◌, ◌*◌, ◌≤◌, ◌<◌}
+use Rattle.std.specs.Prelude.{◌≡◌, List, ◌≢◌, ℕ, zero, suc, ◌+◌, ◌*◌, ◌≤◌, ◌<◌, Some, None}
 use Rattle.std.proofs.Common.{sym, ap, ◌∙◌, inl, inr, mul_comm, arith}
 use Rattle.std.proofs.Math.Decide.{dec_lt}
 use Rattle.base.specs.Ways.{if_eq}
 use Rattle.base.specs.Words.{at}
 use Rattle.arena.specs.declared.Arena.{Arena}
-use Rattle.arena.specs.declared.Named.TheVariants.{At, Stale}
 use Rattle.arena.specs.Slots.{used, named, row}
 use Rattle.value.specs.Laws.{Outside}
 use Rattle.layout.specs.declared.Sizes.{Sizes}
@@ -115,7 +114,7 @@ module _ (l : Lay) (ok : Laid l) (a : Apart l) where
   pub named_held : {w u : List ℕ} → Held l w u → (k i g : ℕ) → k ≢ 4 → named (arena_of l k) i g u ≡ named (arena_of l k) i g w
   named_held {w} {u} s k i g d =
       named_shade (arena_of l k) i g u
-      ∙ ap (λ (c : ℕ). if_eq c 0 Stale (At i)) (shade_held s (ref k i g) d)
+      ∙ ap (λ (c : ℕ). if_eq c 0 None (Some i)) (shade_held s (ref k i g) d)
       ∙ sym (named_shade (arena_of l k) i g w)
 
   -- Links, modes and methods are then the same.

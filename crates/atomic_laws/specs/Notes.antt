@@ -5,7 +5,7 @@
 --                               painted; a list of links marked
 --     table_noted               a table traversed: listed if it is weak
 --     one_noted, for_noted      steps of propagation
-use Rattle.std.specs.Prelude.{◌≡◌, Bool, cond, ◌⊎◌, ◌≢◌, eqb, length}
+use Rattle.std.specs.Prelude.{◌≡◌, Bool, cond, ◌⊎◌, ◌≢◌, eqb, length, Option}
 use Rattle.std.proofs.Math.Path.{refl, ap}
 use Rattle.std.proofs.Common.{sym, subst, ◌∙◌, true≢false, inl, inr, ⊎_elim, arith}
 use Rattle.std.proofs.Math.Bool.{true, false}
@@ -19,7 +19,6 @@ use Rattle.value.specs.declared.ThreadRef.{ThreadRef}
 use Rattle.layout.specs.declared.Lay.{Lay}
 use Rattle.lists.specs.declared.Item.{Item}
 use Rattle.lists.specs.declared.Item.TheVariants.{Table, Function, Userdata, Thread, Main, Unknown}
-use Rattle.lists.specs.declared.Popped.{Popped}
 use Rattle.lists.specs.Lists.{kind_of, length_of, item_at, push, pop, taken}
 use Rattle.lists.proofs.Laws.{pop_some}
 use Rattle.record.specs.Fields.{body_at}
@@ -271,7 +270,7 @@ module _ (l : Lay) (ok : Laid l) (a : Apart l) (am : Ample l) (w b : List ℕ) (
       go (yes e) = subst (λ (x : Propagated × List ℕ). Noted l w b x.1) (sym (one_empty l ok a b u e)) n
       go (no d) =
           let rest = taken l.gray (length_of l.gray u - 1) u in
-          let is : (pop l.gray u).1 ≡ rest = ap (λ (x : Popped × List ℕ). x.1) (pop_some l.gray u d) in
+          let is : (pop l.gray u).1 ≡ rest = ap (λ (x : Option Item × List ℕ). x.1) (pop_some l.gray u d) in
           let m : Marked l u rest = moves_marked l ok a (popped (still refl) gray (sym is)) u_long in
           subst (λ (x : Propagated × List ℕ). Noted l w b x.1) (sym (one_some l ok a b u d))
           (item_noted p t _ (item_at l.gray (length_of l.gray u - 1) u) rest (marked_then c.marked m) (pop_whole l ok a am w long c.whole d) (subst (λ x. Noted l w b x) is (pop_noted l ok a w b u u_long n)))

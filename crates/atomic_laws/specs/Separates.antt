@@ -4,7 +4,7 @@
 --     due_same             whether a slot that is still to come is due does not change
 --     enqueued, passed     a slot that is due, and one that is not
 --     separated_sorted     the whole
-use Rattle.std.specs.Prelude.{◌≡◌, Bool, true, cond, List, ◌⊎◌, ◌≢◌, ltb, length}
+use Rattle.std.specs.Prelude.{◌≡◌, Bool, true, cond, List, ◌⊎◌, ◌≢◌, ltb, length, Option}
 use Rattle.std.proofs.Math.Path.{refl, ap}
 use Rattle.std.proofs.Common.{sym, subst, ◌∙◌, true≢false, inl, inr, ⊎_elim, arith, length-set, get_or-set_same, get_or-set_other}
 use Rattle.std.proofs.Math.Bool.{false}
@@ -12,9 +12,9 @@ use Prim.Native.Nat.{ℕ, min, ◌+◌, ◌*◌, ◌≤◌, ◌<◌}
 use Rattle.std.proofs.Math.Decide.{ℕ_discrete, dec_lt}
 use Rattle.base.specs.Ways.{if_eq}
 use Rattle.base.specs.Words.{at}
+use Rattle.value.specs.declared.TableRef.{TableRef}
 use Rattle.arena.specs.Slots.{row, known, colour, set_colour, gen, used}
 use Rattle.value.specs.declared.UdRef.{UdRef}
-use Rattle.value.specs.declared.TableOr.{TableOr}
 use Rattle.value.specs.declared.Value.{Value}
 use Rattle.value.specs.Values.{is_nil}
 use Rattle.value.specs.Laws.{Outside}
@@ -67,7 +67,7 @@ module _ (l : Lay) (ok : Laid l) (a : Apart l) (am : Ample l) (y : Bodies l) (w 
   due_same k u h s =
       ap (λ (x : ℕ). if_eq (known x) c (cond (ud_finalized p u) false (cond (is_nil (gc_method l (ud_meta p u) u)) false true)) false) (s.others k h (inl (omega arith)))
       ∙ ap (λ (x : ℕ). if_eq (colour l.userdata k w) c (cond (ltb 0 x) false (cond (is_nil (gc_method l (ud_meta p u) u)) false true)) false) mark
-      ∙ ap (λ (t : TableOr). if_eq (colour l.userdata k w) c (cond (ud_finalized p w) false (cond (is_nil (gc_method l t u)) false true)) false) meta
+      ∙ ap (λ (t : Option TableRef). if_eq (colour l.userdata k w) c (cond (ud_finalized p w) false (cond (is_nil (gc_method l t u)) false true)) false) meta
       ∙ ap (λ (v : Value). if_eq (colour l.userdata k w) c (cond (ud_finalized p w) false (cond (is_nil v) false true)) false) (gc_method_same reads (ud_meta p w))
     where
       p : ℕ

@@ -5,18 +5,10 @@
 ghost use Rattle.std.specs.Prelude.{◌≡◌, ◌≤◌, ◌<◌, length};
 ghost use Rattle.layout.specs.Layout.{lay_of};
 ghost use Rattle.base.specs.Heap.{heap};
-ghost use Rattle.laid.specs.Laid.{Laid};
 ghost use Rattle.audit.specs.Audit.{is_within, lists_within, chains_hold, audit_of, said, audit};
 
-use layout::{List, Opened, Sizes};
-
-// What the audit answers.
-#[derive(Clone, Copy)]
-pub enum Audited {
-    Yes,
-    No,
-    Refused(u32),
-}
+use base::Refusal;
+use layout::{List, Plan};
 
 // Whether a list is within its room.
 fn is_within(w: &[u32], b: List) -> bool
@@ -28,10 +20,9 @@ fn is_within(w: &[u32], b: List) -> bool
     base::wide(w[p]) <= room
 }
 
-fn lists_within(w: &[u32], l: Sizes) -> bool
-    requires laid { Laid (lay_of l) }
-    requires l_in_bounds { (lay_of l).words ≤ length w.now }
-    ensures { result ≡ lists_within (lay_of l) w.now }
+fn lists_within(w: &[u32], l: Plan) -> bool
+    requires l_in_bounds { (lay_of l.sizes).words ≤ length w.now }
+    ensures { result ≡ lists_within (lay_of l.sizes) w.now }
 {
     is_within(w, layout::gray_of(l))
         & is_within(w, layout::grayagain_of(l))
@@ -39,10 +30,9 @@ fn lists_within(w: &[u32], l: Sizes) -> bool
         & is_within(w, layout::queue_of(l))
 }
 
-fn chains_hold(w: &[u32], l: Sizes) -> bool
-    requires laid { Laid (lay_of l) }
-    requires l_in_bounds { (lay_of l).words ≤ length w.now }
-    ensures { result ≡ chains_hold (lay_of l) w.now }
+fn chains_hold(w: &[u32], l: Plan) -> bool
+    requires l_in_bounds { (lay_of l.sizes).words ≤ length w.now }
+    ensures { result ≡ chains_hold (lay_of l.sizes) w.now }
 {
     chains::chain_holds(w, layout::strings_of(l))
         & chains::chain_holds(w, layout::tables_of(l))
@@ -53,10 +43,9 @@ fn chains_hold(w: &[u32], l: Sizes) -> bool
 }
 
 // The four questions, in the document's order.
-fn passes(w: &[u32], l: Sizes) -> bool
-    requires laid { Laid (lay_of l) }
-    requires l_in_bounds { (lay_of l).words ≤ length w.now }
-    ensures { result ≡ audit_of (lay_of l) w.now }
+fn passes(w: &[u32], l: Plan) -> bool
+    requires l_in_bounds { (lay_of l.sizes).words ≤ length w.now }
+    ensures { result ≡ audit_of (lay_of l.sizes) w.now }
 {
     if w[layout::PHASE] != 0 {
         return false;
@@ -70,19 +59,17 @@ fn passes(w: &[u32], l: Sizes) -> bool
     held::all_name(w, l)
 }
 
-fn say(b: bool) -> Audited
+fn say(b: bool) -> Result<bool, Refusal>
     ensures { result ≡ said b }
 {
-    if b { Audited::Yes } else { Audited::No }
+    Ok(b)
 }
 
 // Whether the phase is Pause, each list is within its room, each chain holds every free slot below its arena's fresh index
 // once, and every handle in an occupied record names an occupied slot.
-pub fn audit(w: &[u32], b: &[u8]) -> Audited
+pub fn audit(w: &[u32], b: &[u8]) -> Result<bool, Refusal>
     ensures { result ≡ audit (heap w.now b.now) }
 {
-    match test1::enter(w, b) {
-        Opened::Fits(l) => say(passes(w, l)),
-        Opened::Refused(n) => Audited::Refused(n),
-    }
+    let l = test1::enter(w, b)?;
+    say(passes(w, l))
 }

@@ -6,23 +6,23 @@ ghost use Rattle.std.specs.Prelude.{◌≡◌, ◌≤◌, ◌<◌, length};
 ghost use Rattle.base.specs.Heap.{heap};
 ghost use Rattle.audit_engine.specs.Exports.{told, on_audit};
 
-use audit::Audited;
+use base::Refusal;
 
 // An answer in a word; the number of a refusal leaves it as it is.
-fn tell(out: &mut [u32], a: Audited) -> u32
+fn tell(out: &mut [u32], a: Result<bool, Refusal>) -> u32
     requires { 1 ≤ length out.old }
     ensures { (result, out.new) ≡ told a out.old }
 {
     match a {
-        Audited::Yes => {
+        Ok(true) => {
             base::put(out, 0, 1);
             0
         }
-        Audited::No => {
+        Ok(false) => {
             base::put(out, 0, 0);
             0
         }
-        Audited::Refused(n) => n,
+        Err(n) => n.number(),
     }
 }
 

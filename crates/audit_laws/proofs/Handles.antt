@@ -1,15 +1,14 @@
 -- The audit's test of a record means what document 01 says: every handle in it names an occupied slot. Assumes nothing.
 --     slot_means, slots_mean     the test of a slot says yes exactly if, being occupied, it holds such handles only; and that of all slots
-use Rattle.std.specs.Prelude.{◌≡◌, refl, Bool, true, List}
+use Rattle.std.specs.Prelude.{◌≡◌, refl, Bool, true, List, Some, None, Option}
 use Rattle.std.proofs.Common.{sym, ap, ◌∙◌, true≢false, ⊎_elim}
 use Prim.Native.Nat.{ℕ, ◌+◌, ◌*◌, ◌<◌}
 use Rattle.std.proofs.Math.Decide.{ℕ_discrete}
 use Rattle.base.specs.Ways.{if_eq, eq_yes, eq_no}
+use Rattle.value.specs.declared.TableRef.{TableRef}
 use Rattle.arena.specs.declared.Arena.{Arena}
 use Rattle.arena.specs.Slots.{colour, used}
 use Rattle.arena_laws.specs.Names.{Names, named_tells, named_at, named_either}
-use Rattle.value.specs.declared.TableOr.{TableOr}
-use Rattle.value.specs.declared.TableOr.TheVariants.{Absent, Present}
 use Rattle.value.specs.declared.Value.{Value}
 use Rattle.value.specs.declared.Value.TheVariants.{Nil, Boolean, Light, Number, Str, Table, Function, Userdata, Thread}
 use Rattle.layout.specs.declared.Lay.{Lay}
@@ -53,10 +52,10 @@ module _ (l : Lay) (w : List ℕ) where
   value_means (Userdata r) = named_means l.userdata r.0 r.1 w
   value_means (Thread r) = named_means l.threads r.0 r.1 w
 
-  table_or_means : (t : TableOr) → Means (is_table_or l t w) (TableOrNames l w t)
+  table_or_means : (t : Option TableRef) → Means (is_table_or l t w) (TableOrNames l w t)
   unfolding is_table_or
-  table_or_means (Present r) = named_means l.tables r.0 r.1 w
-  table_or_means Absent = always
+  table_or_means (Some r) = named_means l.tables r.0 r.1 w
+  table_or_means None = always
 
   -- values and handles of upvalues in a row
   values_mean : (p n : ℕ) → Means (are_sound l w p n w) ((k : ℕ) → k < n → ValueNames l w (value_at w (p + 3 * k)))

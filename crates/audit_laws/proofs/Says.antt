@@ -2,10 +2,11 @@
 --     audit_says              the audit says yes exactly if the heap passes
 --     audit_denies            and no exactly if it does not
 --     audit_row_1, audit_row_8     it is refused with 1 and 8 as every call
-use Rattle.std.specs.Prelude.{◌≡◌, refl, Bool, true, false, ◌&&◌, List as Words, ◌↔◌, ℕ, ◌≤◌, ◌<◌, leb, length}
+use Rattle.std.specs.Prelude.{◌≡◌, refl, Bool, true, false, ◌&&◌, List as Words, ◌↔◌, ℕ, ◌≤◌, ◌<◌, leb, length, Ok, Err}
 use Rattle.std.proofs.Common.{sym, ap, ◌∙◌, true≢false, arith, eqb-true, eq-eqb, leb-true, le-leb}
 use Rattle.base.specs.Words.{at}
 use Rattle.base.specs.Heap.{heap}
+use Rattle.base.specs.declared.Refusal.TheVariants.{Unfit, Damaged}
 use Rattle.arena.specs.Slots.{fresh, used}
 use Rattle.layout.specs.declared.List.{List}
 use Rattle.layout.specs.declared.Lay.{Lay}
@@ -22,7 +23,6 @@ use Rattle.reads.specs.declared.Kind.TheVariants as kind
 use Rattle.chains.specs.Chains.{chain_holds}
 use Rattle.held.specs.Held.{slots_name, all_name}
 use Rattle.audit.specs.Audit.{is_pause, is_within, lists_within, chains_hold, audit_of, said, audit}
-use Rattle.audit.specs.declared.Audited.TheVariants.{Yes, No, Refused}
 use Rattle.audit_laws.specs.Tests.{Means, means_as, and_means}
 use Rattle.audit_laws.specs.Walks.{Chained}
 use Rattle.audit_laws.proofs.Walks.{chain_means}
@@ -158,11 +158,11 @@ module _ (w : Words ℕ) (s : Sizes) (fit : arenas_fit w s ≡ true) where
   arenas_below kind.Userdata = (all_hold (arena_rows w USERDATA s.userdata) six.1.1.0).0
   arenas_below kind.Threads = (all_hold (arena_rows w THREADS s.threads) six.1.1.1).0
 
-said_yes : (b : Bool) → said b ≡ Yes → b ≡ true
+said_yes : (b : Bool) → said b ≡ Ok true → b ≡ true
 said_yes true p = refl
 said_yes false p = absurd (let z : ◌≡◌ {A = ℕ} 0 1 = cc in let y : ⊥ = omega arith in y)
 
-said_no : (b : Bool) → said b ≡ No → b ≡ false
+said_no : (b : Bool) → said b ≡ Ok false → b ≡ false
 said_no true p = absurd (let z : ◌≡◌ {A = ℕ} 0 1 = cc in let y : ⊥ = omega arith in y)
 said_no false p = refl
 
@@ -173,18 +173,18 @@ module _ (w b : Words ℕ) (ok : accepted w (length b) ≡ true) (whole : at w D
 
   audit_is : audit (heap w b) ≡ said (audit_of lay w)
   unfolding audit
-  audit_is = ask_row_else Refused (λ l g. said (audit_of l g.words)) w b ok whole
+  audit_is = ask_row_else Err (λ l g. said (audit_of l g.words)) w b ok whole
 
   of_means : Means (audit_of lay w) (Passes lay w)
   of_means = audit_means lay w (arenas_below w (sizes_at w) (arenas_fit_lem w (length b) ok))
 
-  pub audit_says : audit (heap w b) ≡ Yes ↔ Passes lay w
+  pub audit_says : audit (heap w b) ≡ Ok true ↔ Passes lay w
   audit_says = (
     (λ p. of_means.0 (said_yes (audit_of lay w) (sym audit_is ∙ p))),
     λ h. audit_is ∙ ap said (of_means.1 h),
   )
 
-  pub audit_denies : audit (heap w b) ≡ No ↔ (Passes lay w → ⊥)
+  pub audit_denies : audit (heap w b) ≡ Ok false ↔ (Passes lay w → ⊥)
   audit_denies = (
     (λ p h. true≢false (sym (of_means.1 h) ∙ said_no (audit_of lay w) (sym audit_is ∙ p))),
     λ d. audit_is ∙ ap said (neither (audit_of lay w) (λ e. d (of_means.0 e))),
@@ -196,10 +196,10 @@ module _ (w b : Words ℕ) (ok : accepted w (length b) ≡ true) (whole : at w D
 
 -- Any other heap is refused, with 1 or 8.
 module _ (w b : Words ℕ) where
-  pub audit_row_1 : accepted w (length b) ≡ false → audit (heap w b) ≡ Refused 1
+  pub audit_row_1 : accepted w (length b) ≡ false → audit (heap w b) ≡ Err Unfit
   unfolding audit
-  audit_row_1 p = ask_row_1 Refused (λ l g. said (audit_of l g.words)) w b p
+  audit_row_1 p = ask_row_1 Err (λ l g. said (audit_of l g.words)) w b p
 
-  pub audit_row_8 : accepted w (length b) ≡ true → (at w DAMAGE ≡ 0 → ⊥) → audit (heap w b) ≡ Refused 8
+  pub audit_row_8 : accepted w (length b) ≡ true → (at w DAMAGE ≡ 0 → ⊥) → audit (heap w b) ≡ Err Damaged
   unfolding audit
-  audit_row_8 p q = ask_row_8 Refused (λ l g. said (audit_of l g.words)) w b p q
+  audit_row_8 p q = ask_row_8 Err (λ l g. said (audit_of l g.words)) w b p q

@@ -1,12 +1,11 @@
 -- What the audit asks of a record, in document 01's words: every handle in it names an occupied slot. Assumes nothing.
 --     ValueNames, TableOrNames, UpvalueNames     the handle of a value, if it has one; a table's, if there is one; an upvalue's
 --     TableHolds .. ThreadHolds          every handle of a record does
-use Rattle.std.specs.Prelude.{◌≡◌, true, false, List, ◌≢◌}
+use Rattle.std.specs.Prelude.{◌≡◌, true, false, List, ◌≢◌, Some, None, Option}
 use Prim.Native.Nat.{ℕ, ◌<◌}
+use Rattle.value.specs.declared.TableRef.{TableRef}
 use Rattle.arena.specs.Slots.{colour}
 use Rattle.arena_laws.specs.Names.{Names}
-use Rattle.value.specs.declared.TableOr.{TableOr}
-use Rattle.value.specs.declared.TableOr.TheVariants.{Absent, Present}
 use Rattle.value.specs.declared.UpvalRef.{UpvalRef}
 use Rattle.value.specs.declared.Value.{Value}
 use Rattle.value.specs.declared.Value.TheVariants.{Nil, Boolean, Light, Number, Str, Table, Function, Userdata, Thread}
@@ -35,9 +34,9 @@ module _ (l : Lay) (w : List ℕ) where
   ValueNames (Thread r) = Names l.threads r.0 r.1 w
 
   -- a table's handle, if there is one
-  abbrev pub TableOrNames : TableOr → Type 0
-  TableOrNames (Present r) = Names l.tables r.0 r.1 w
-  TableOrNames Absent = Unit {0}
+  abbrev pub TableOrNames : Option TableRef → Type 0
+  TableOrNames (Some r) = Names l.tables r.0 r.1 w
+  TableOrNames None = Unit {0}
 
   abbrev pub UpvalueNames : UpvalRef → Type 0
   UpvalueNames r = Names l.upvalues r.0 r.1 w

@@ -2,3 +2,4 @@ pub mod Ways
 pub mod Loop
 pub mod Words
 pub mod Heap
+pub mod Refusals

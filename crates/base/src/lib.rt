@@ -3,6 +3,46 @@
 
 ghost use Rattle.std.specs.Prelude.{◌≡◌, ℕ, ◌+◌, ◌-◌, ◌*◌, ◌/◌, ◌%◌, ◌^◌, ◌≤◌, ◌<◌, min, length};
 ghost use Rattle.base.specs.Words.{at, put, clear, join, get64, put64, add_sat, more, bounded};
+ghost use Rattle.base.specs.Refusals.{number};
+
+// The refusals of document 01, in the order of their numbers.
+#[derive(Clone, Copy, PartialEq, Eq)]
+pub enum Refusal {
+    // A buffer is too short, or a stored size, count, phase or current white lies outside its range.
+    Unfit,
+    // A handle names no occupied slot of its kind.
+    Stale,
+    // Every slot is occupied, or every prototype number used.
+    Full,
+    // An index, length or size outside its range.
+    OutOfRange,
+    // What is asked does not fit the state: no finalizer is out, an upvalue is closed or open, a stack is empty.
+    WrongState,
+    // The tracked total would pass its end.
+    TooLarge,
+    // The total ended above the limit.
+    OverLimit,
+    // The damage mark is set.
+    Damaged,
+}
+
+impl Refusal {
+    // Its number in document 01.
+    pub fn number(self) -> u32
+        ensures { result ≡ number self }
+    {
+        match self {
+            Refusal::Unfit => 1,
+            Refusal::Stale => 2,
+            Refusal::Full => 3,
+            Refusal::OutOfRange => 4,
+            Refusal::WrongState => 5,
+            Refusal::TooLarge => 6,
+            Refusal::OverLimit => 7,
+            Refusal::Damaged => 8,
+        }
+    }
+}
 
 // A word as an index or a count.
 pub fn wide(x: u32) -> usize
@@ -64,32 +104,28 @@ pub fn put64(w: &mut [u32], p: usize, x: u64)
 pub fn add_sat(x: u64, y: u64) -> u64
     ensures { result ≡ add_sat x y }
 {
-    if x <= 18446744073709551615 - y {
-        x + y
-    } else {
-        18446744073709551615
-    }
+    x.saturating_add(y)
 }
 
 // The difference, which stops at 0.
 pub fn sub_sat(x: u64, y: u64) -> u64
     ensures { result ≡ x - y }
 {
-    if y <= x { x - y } else { 0 }
+    x.saturating_sub(y)
 }
 
 // A count is one more. It stops at the end of 32 bits, which no count within its range comes near.
 pub fn count_up(x: u32) -> u32
     ensures { result ≡ more x }
 {
-    if x < 4294967295 { x + 1 } else { x }
+    x.saturating_add(1)
 }
 
 // A count is one less. It stops at 0.
 pub fn count_down(x: u32) -> u32
     ensures { result ≡ x - 1 }
 {
-    if 0 < x { x - 1 } else { 0 }
+    x.saturating_sub(1)
 }
 
 // A stored size or count as it is read: one past its range is 0.
@@ -97,10 +133,7 @@ pub fn within(x: u32, most: usize) -> usize
     ensures { (result ≡ bounded x most) × (result ≤ most) }
 {
     let n = wide(x);
-    if n <= most {
-        return n;
-    }
-    0
+    if n <= most { n } else { 0 }
 }
 
 // Words p to p + n - 1 are made 0.
@@ -108,11 +141,7 @@ pub fn clear_words(w: &mut [u32], p: usize, n: usize)
     requires { p + n ≤ length w.old }
     ensures { w.new ≡ clear p n w.old }
 {
-    let mut k: usize = 0;
-    while k < n {
-        w[p + k] = 0;
-        k += 1;
-    }
+    w[p..p + n].fill(0);
 }
 
 // Bytes p to p + n - 1 are made 0.
@@ -120,9 +149,5 @@ pub fn clear_bytes(b: &mut [u8], p: usize, n: usize)
     requires { p + n ≤ length b.old }
     ensures { b.new ≡ clear p n b.old }
 {
-    let mut k: usize = 0;
-    while k < n {
-        b[p + k] = 0;
-        k += 1;
-    }
+    b[p..p + n].fill(0);
 }

@@ -40,13 +40,11 @@ pub fn chain_holds(w: &[u32], a: Arena) -> bool
 {
     let n = free_count(w, a);
     let mut x = arena::head_of(w, a);
-    let mut k: usize = 0;
-    while k < n {
+    for k in 0..n {
         if !names_free(w, a, x) {
             return false;
         }
         x = arena::link_of(w, a, wide(x) - 1);
-        k += 1;
     }
     x == 0
 }

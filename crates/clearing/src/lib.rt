@@ -4,54 +4,44 @@
 
 ghost use Rattle.std.specs.Prelude.{◌≡◌, ◌+◌, ◌*◌, ◌≤◌, ◌<◌, length};
 ghost use Rattle.layout.specs.Layout.{lay_of};
-ghost use Rattle.laid.specs.Laid.{Laid};
 ghost use Rattle.clearing.specs.Strings.{keep_string, keep_strings, keep_node, keep_nodes, keep_table, keep_listed, keep_all};
 ghost use Rattle.clearing.specs.Entries.{is_finalized, is_dead, clear_value, clear_values, clear_array, key_dies, value_dies, node_dies, clear_node, clear_nodes, clear_entries, clear_table, clear_listed, clear_all, clear_weak_tables};
 
-use layout::Sizes;
+use layout::Plan;
 use lists::Item;
 use modes::Mode;
 use value::{TableRef, UdRef, Value};
 
 // A string in words p to p + 2 takes the white.
-fn keep_string(w: &mut [u32], l: Sizes, white: u32, p: usize)
-    requires laid { Laid (lay_of l) }
-    requires l_in_bounds { (lay_of l).words ≤ length w.old }
+fn keep_string(w: &mut [u32], l: Plan, white: u32, p: usize)
+    requires l_in_bounds { (lay_of l.sizes).words ≤ length w.old }
     requires p_in_bounds { p + 2 < length w.old }
-    ensures { w.new ≡ keep_string (lay_of l) white p w.old }
+    ensures { w.new ≡ keep_string (lay_of l.sizes) white p w.old }
 {
     let strings = layout::strings_of(l);
-    match value::read_value(w, p) {
-        Value::Str(s) => {
-            if mark::shade(w, strings, s.0, s.1) == 0 {
-                return;
-            }
+    if let Value::Str(s) = value::read_value(w, p) {
+        if mark::shade(w, strings, s.0, s.1) != 0 {
             arena::set_colour(w, strings, base::wide(s.0), white);
         }
-        _ => {}
     }
 }
 
 // n values from p on.
-fn keep_strings(w: &mut [u32], l: Sizes, white: u32, p: usize, n: usize)
-    requires laid { Laid (lay_of l) }
-    requires l_in_bounds { (lay_of l).words ≤ length w.old }
+fn keep_strings(w: &mut [u32], l: Plan, white: u32, p: usize, n: usize)
+    requires l_in_bounds { (lay_of l.sizes).words ≤ length w.old }
     requires n_in_bounds { p + 3 * n ≤ length w.old }
-    ensures { w.new ≡ keep_strings (lay_of l) white p n w.old }
+    ensures { w.new ≡ keep_strings (lay_of l.sizes) white p n w.old }
 {
-    let mut i: usize = 0;
-    while i < n {
+    for i in 0..n {
         keep_string(w, l, white, p + 3 * i);
-        i += 1;
     }
 }
 
 // Key and value of a node with non-nil key.
-fn keep_node(w: &mut [u32], l: Sizes, white: u32, q: usize)
-    requires laid { Laid (lay_of l) }
-    requires l_in_bounds { (lay_of l).words ≤ length w.old }
+fn keep_node(w: &mut [u32], l: Plan, white: u32, q: usize)
+    requires l_in_bounds { (lay_of l.sizes).words ≤ length w.old }
     requires q_in_bounds { q + 6 ≤ length w.old }
-    ensures { w.new ≡ keep_node (lay_of l) white q w.old }
+    ensures { w.new ≡ keep_node (lay_of l.sizes) white q w.old }
 {
     if mark::is_nil_at(w, q) {
         return;
@@ -61,24 +51,20 @@ fn keep_node(w: &mut [u32], l: Sizes, white: u32, q: usize)
 }
 
 // n nodes from q on.
-fn keep_nodes(w: &mut [u32], l: Sizes, white: u32, q: usize, n: usize)
-    requires laid { Laid (lay_of l) }
-    requires l_in_bounds { (lay_of l).words ≤ length w.old }
+fn keep_nodes(w: &mut [u32], l: Plan, white: u32, q: usize, n: usize)
+    requires l_in_bounds { (lay_of l.sizes).words ≤ length w.old }
     requires n_in_bounds { q + 6 * n ≤ length w.old }
-    ensures { w.new ≡ keep_nodes (lay_of l) white q n w.old }
+    ensures { w.new ≡ keep_nodes (lay_of l.sizes) white q n w.old }
 {
-    let mut j: usize = 0;
-    while j < n {
+    for j in 0..n {
         keep_node(w, l, white, q + 6 * j);
-        j += 1;
     }
 }
 
 // Every string in the table of slot r.0.
-fn keep_table(w: &mut [u32], l: Sizes, white: u32, r: TableRef)
-    requires laid { Laid (lay_of l) }
-    requires l_in_bounds { (lay_of l).words ≤ length w.old }
-    ensures { w.new ≡ keep_table (lay_of l) white r w.old }
+fn keep_table(w: &mut [u32], l: Plan, white: u32, r: TableRef)
+    requires l_in_bounds { (lay_of l.sizes).words ≤ length w.old }
+    ensures { w.new ≡ keep_table (lay_of l.sizes) white r w.old }
 {
     let tables = layout::tables_of(l);
     if mark::shade(w, tables, r.0, r.1) == 0 {
@@ -91,36 +77,30 @@ fn keep_table(w: &mut [u32], l: Sizes, white: u32, r: TableRef)
     keep_nodes(w, l, white, p + 4 + 3 * n, k);
 }
 
-fn keep_listed(w: &mut [u32], l: Sizes, white: u32, k: usize)
-    requires laid { Laid (lay_of l) }
-    requires l_in_bounds { (lay_of l).words ≤ length w.old }
-    ensures { w.new ≡ keep_listed (lay_of l) white k w.old }
+fn keep_listed(w: &mut [u32], l: Plan, white: u32, k: usize)
+    requires l_in_bounds { (lay_of l.sizes).words ≤ length w.old }
+    ensures { w.new ≡ keep_listed (lay_of l.sizes) white k w.old }
 {
-    match lists::item_at(w, layout::weak_of(l), k) {
-        Item::Table(r) => keep_table(w, l, white, r),
-        _ => {}
+    if let Item::Table(r) = lists::item_at(w, layout::weak_of(l), k) {
+        keep_table(w, l, white, r);
     }
 }
 
 // First pass: the strings of every listed table.
-fn keep_all(w: &mut [u32], l: Sizes, white: u32)
-    requires laid { Laid (lay_of l) }
-    requires l_in_bounds { (lay_of l).words ≤ length w.old }
-    ensures { w.new ≡ keep_all (lay_of l) white w.old }
+fn keep_all(w: &mut [u32], l: Plan, white: u32)
+    requires l_in_bounds { (lay_of l.sizes).words ≤ length w.old }
+    ensures { w.new ≡ keep_all (lay_of l.sizes) white w.old }
 {
     let n = lists::length_of(w, layout::weak_of(l));
-    let mut k: usize = 0;
-    while k < n {
+    for k in 0..n {
         keep_listed(w, l, white, k);
-        k += 1;
     }
 }
 
 // Whether a userdata that is there is finalized.
-fn is_finalized(w: &[u32], l: Sizes, r: UdRef) -> bool
-    requires laid { Laid (lay_of l) }
-    requires l_in_bounds { (lay_of l).words ≤ length w.now }
-    ensures { result ≡ is_finalized (lay_of l) r w.now }
+fn is_finalized(w: &[u32], l: Plan, r: UdRef) -> bool
+    requires l_in_bounds { (lay_of l.sizes).words ≤ length w.now }
+    ensures { result ≡ is_finalized (lay_of l.sizes) r w.now }
 {
     let userdata = layout::userdata_of(l);
     if mark::shade(w, userdata, r.0, r.1) == 0 {
@@ -132,34 +112,26 @@ fn is_finalized(w: &[u32], l: Sizes, r: UdRef) -> bool
 
 // Whether a value is dead: a table, function, userdata or thread in the old white; a userdata that is no key also if it is
 // finalized.
-fn is_dead(w: &[u32], l: Sizes, old: u32, key: bool, v: Value) -> bool
-    requires laid { Laid (lay_of l) }
-    requires l_in_bounds { (lay_of l).words ≤ length w.now }
-    ensures { result ≡ is_dead (lay_of l) old key v w.now }
+fn is_dead(w: &[u32], l: Plan, old: u32, key: bool, v: Value) -> bool
+    requires l_in_bounds { (lay_of l.sizes).words ≤ length w.now }
+    ensures { result ≡ is_dead (lay_of l.sizes) old key v w.now }
 {
     match v {
         Value::Table(r) => mark::shade(w, layout::tables_of(l), r.0, r.1) == old,
         Value::Function(r) => mark::shade(w, layout::functions_of(l), r.0, r.1) == old,
         Value::Thread(r) => mark::shade(w, layout::threads_of(l), r.0, r.1) == old,
         Value::Userdata(r) => {
-            if mark::shade(w, layout::userdata_of(l), r.0, r.1) == old {
-                return true;
-            }
-            if key {
-                return false;
-            }
-            is_finalized(w, l, r)
+            mark::shade(w, layout::userdata_of(l), r.0, r.1) == old || !key && is_finalized(w, l, r)
         }
         _ => false,
     }
 }
 
 // An array value that is dead is nil.
-fn clear_value(w: &mut [u32], l: Sizes, old: u32, p: usize)
-    requires laid { Laid (lay_of l) }
-    requires l_in_bounds { (lay_of l).words ≤ length w.old }
+fn clear_value(w: &mut [u32], l: Plan, old: u32, p: usize)
+    requires l_in_bounds { (lay_of l.sizes).words ≤ length w.old }
     requires p_in_bounds { p + 2 < length w.old }
-    ensures { w.new ≡ clear_value (lay_of l) old p w.old }
+    ensures { w.new ≡ clear_value (lay_of l.sizes) old p w.old }
 {
     let v = value::read_value(w, p);
     if is_dead(w, l, old, false, v) {
@@ -168,25 +140,21 @@ fn clear_value(w: &mut [u32], l: Sizes, old: u32, p: usize)
 }
 
 // n values from p on.
-fn clear_values(w: &mut [u32], l: Sizes, old: u32, p: usize, n: usize)
-    requires laid { Laid (lay_of l) }
-    requires l_in_bounds { (lay_of l).words ≤ length w.old }
+fn clear_values(w: &mut [u32], l: Plan, old: u32, p: usize, n: usize)
+    requires l_in_bounds { (lay_of l.sizes).words ≤ length w.old }
     requires n_in_bounds { p + 3 * n ≤ length w.old }
-    ensures { w.new ≡ clear_values (lay_of l) old p n w.old }
+    ensures { w.new ≡ clear_values (lay_of l.sizes) old p n w.old }
 {
-    let mut i: usize = 0;
-    while i < n {
+    for i in 0..n {
         clear_value(w, l, old, p + 3 * i);
-        i += 1;
     }
 }
 
 // The array of n values from p on, where values are weak.
-fn clear_array(w: &mut [u32], l: Sizes, old: u32, m: Mode, p: usize, n: usize)
-    requires laid { Laid (lay_of l) }
-    requires l_in_bounds { (lay_of l).words ≤ length w.old }
+fn clear_array(w: &mut [u32], l: Plan, old: u32, m: Mode, p: usize, n: usize)
+    requires l_in_bounds { (lay_of l.sizes).words ≤ length w.old }
     requires n_in_bounds { p + 3 * n ≤ length w.old }
-    ensures { w.new ≡ clear_array (lay_of l) old m p n w.old }
+    ensures { w.new ≡ clear_array (lay_of l.sizes) old m p n w.old }
 {
     if m.values {
         clear_values(w, l, old, p, n);
@@ -194,49 +162,36 @@ fn clear_array(w: &mut [u32], l: Sizes, old: u32, m: Mode, p: usize, n: usize)
 }
 
 // A node dies by its key where keys are weak.
-fn key_dies(w: &[u32], l: Sizes, old: u32, m: Mode, q: usize) -> bool
-    requires laid { Laid (lay_of l) }
-    requires l_in_bounds { (lay_of l).words ≤ length w.now }
+fn key_dies(w: &[u32], l: Plan, old: u32, m: Mode, q: usize) -> bool
+    requires l_in_bounds { (lay_of l.sizes).words ≤ length w.now }
     requires q_in_bounds { q + 6 ≤ length w.now }
-    ensures { result ≡ key_dies (lay_of l) old m q w.now }
+    ensures { result ≡ key_dies (lay_of l.sizes) old m q w.now }
 {
-    if m.keys {
-        return is_dead(w, l, old, true, value::read_value(w, q));
-    }
-    false
+    m.keys && is_dead(w, l, old, true, value::read_value(w, q))
 }
 
 // And by its value where values are.
-fn value_dies(w: &[u32], l: Sizes, old: u32, m: Mode, q: usize) -> bool
-    requires laid { Laid (lay_of l) }
-    requires l_in_bounds { (lay_of l).words ≤ length w.now }
+fn value_dies(w: &[u32], l: Plan, old: u32, m: Mode, q: usize) -> bool
+    requires l_in_bounds { (lay_of l.sizes).words ≤ length w.now }
     requires q_in_bounds { q + 6 ≤ length w.now }
-    ensures { result ≡ value_dies (lay_of l) old m q w.now }
+    ensures { result ≡ value_dies (lay_of l.sizes) old m q w.now }
 {
-    if m.values {
-        return is_dead(w, l, old, false, value::read_value(w, q + 3));
-    }
-    false
+    m.values && is_dead(w, l, old, false, value::read_value(w, q + 3))
 }
 
-fn node_dies(w: &[u32], l: Sizes, old: u32, m: Mode, q: usize) -> bool
-    requires laid { Laid (lay_of l) }
-    requires l_in_bounds { (lay_of l).words ≤ length w.now }
+fn node_dies(w: &[u32], l: Plan, old: u32, m: Mode, q: usize) -> bool
+    requires l_in_bounds { (lay_of l.sizes).words ≤ length w.now }
     requires q_in_bounds { q + 6 ≤ length w.now }
-    ensures { result ≡ node_dies (lay_of l) old m q w.now }
+    ensures { result ≡ node_dies (lay_of l.sizes) old m q w.now }
 {
-    if key_dies(w, l, old, m, q) {
-        return true;
-    }
-    value_dies(w, l, old, m, q)
+    key_dies(w, l, old, m, q) || value_dies(w, l, old, m, q)
 }
 
 // A node with non-nil key that dies loses its value.
-fn clear_node(w: &mut [u32], l: Sizes, old: u32, m: Mode, q: usize)
-    requires laid { Laid (lay_of l) }
-    requires l_in_bounds { (lay_of l).words ≤ length w.old }
+fn clear_node(w: &mut [u32], l: Plan, old: u32, m: Mode, q: usize)
+    requires l_in_bounds { (lay_of l.sizes).words ≤ length w.old }
     requires q_in_bounds { q + 6 ≤ length w.old }
-    ensures { w.new ≡ clear_node (lay_of l) old m q w.old }
+    ensures { w.new ≡ clear_node (lay_of l.sizes) old m q w.old }
 {
     if mark::is_nil_at(w, q) {
         return;
@@ -247,25 +202,21 @@ fn clear_node(w: &mut [u32], l: Sizes, old: u32, m: Mode, q: usize)
 }
 
 // n nodes from q on.
-fn clear_nodes(w: &mut [u32], l: Sizes, old: u32, m: Mode, q: usize, n: usize)
-    requires laid { Laid (lay_of l) }
-    requires l_in_bounds { (lay_of l).words ≤ length w.old }
+fn clear_nodes(w: &mut [u32], l: Plan, old: u32, m: Mode, q: usize, n: usize)
+    requires l_in_bounds { (lay_of l.sizes).words ≤ length w.old }
     requires n_in_bounds { q + 6 * n ≤ length w.old }
-    ensures { w.new ≡ clear_nodes (lay_of l) old m q n w.old }
+    ensures { w.new ≡ clear_nodes (lay_of l.sizes) old m q n w.old }
 {
-    let mut j: usize = 0;
-    while j < n {
+    for j in 0..n {
         clear_node(w, l, old, m, q + 6 * j);
-        j += 1;
     }
 }
 
 // Array and nodes of the table whose body is at p.
-fn clear_entries(w: &mut [u32], l: Sizes, old: u32, m: Mode, p: usize)
-    requires laid { Laid (lay_of l) }
-    requires l_in_bounds { (lay_of l).words ≤ length w.old }
+fn clear_entries(w: &mut [u32], l: Plan, old: u32, m: Mode, p: usize)
+    requires l_in_bounds { (lay_of l.sizes).words ≤ length w.old }
     requires p_in_bounds { p + 580 ≤ length w.old }
-    ensures { w.new ≡ clear_entries (lay_of l) old m p w.old }
+    ensures { w.new ≡ clear_entries (lay_of l.sizes) old m p w.old }
 {
     let n = record::tables::array_size(w, p);
     let k = record::tables::node_count(w, p);
@@ -274,11 +225,10 @@ fn clear_entries(w: &mut [u32], l: Sizes, old: u32, m: Mode, p: usize)
 }
 
 // The mode is read again, from what the metatable has now.
-fn clear_table(w: &mut [u32], b: &[u8], l: Sizes, old: u32, r: TableRef)
-    requires laid { Laid (lay_of l) }
-    requires l_in_bounds { (lay_of l).words ≤ length w.old }
-    requires l_in_bounds_2 { (lay_of l).bytes ≤ length b.now }
-    ensures { w.new ≡ clear_table (lay_of l) b.now old r w.old }
+fn clear_table(w: &mut [u32], b: &[u8], l: Plan, old: u32, r: TableRef)
+    requires l_in_bounds { (lay_of l.sizes).words ≤ length w.old }
+    requires l_in_bounds_2 { (lay_of l.sizes).bytes ≤ length b.now }
+    ensures { w.new ≡ clear_table (lay_of l.sizes) b.now old r w.old }
 {
     let tables = layout::tables_of(l);
     if mark::shade(w, tables, r.0, r.1) == 0 {
@@ -292,39 +242,33 @@ fn clear_table(w: &mut [u32], b: &[u8], l: Sizes, old: u32, r: TableRef)
     }
 }
 
-fn clear_listed(w: &mut [u32], b: &[u8], l: Sizes, old: u32, k: usize)
-    requires laid { Laid (lay_of l) }
-    requires l_in_bounds { (lay_of l).words ≤ length w.old }
-    requires l_in_bounds_2 { (lay_of l).bytes ≤ length b.now }
-    ensures { w.new ≡ clear_listed (lay_of l) b.now old k w.old }
+fn clear_listed(w: &mut [u32], b: &[u8], l: Plan, old: u32, k: usize)
+    requires l_in_bounds { (lay_of l.sizes).words ≤ length w.old }
+    requires l_in_bounds_2 { (lay_of l.sizes).bytes ≤ length b.now }
+    ensures { w.new ≡ clear_listed (lay_of l.sizes) b.now old k w.old }
 {
-    match lists::item_at(w, layout::weak_of(l), k) {
-        Item::Table(r) => clear_table(w, b, l, old, r),
-        _ => {}
+    if let Item::Table(r) = lists::item_at(w, layout::weak_of(l), k) {
+        clear_table(w, b, l, old, r);
     }
 }
 
 // Second pass: the dead entries of every listed table.
-fn clear_all(w: &mut [u32], b: &[u8], l: Sizes, old: u32)
-    requires laid { Laid (lay_of l) }
-    requires l_in_bounds { (lay_of l).words ≤ length w.old }
-    requires l_in_bounds_2 { (lay_of l).bytes ≤ length b.now }
-    ensures { w.new ≡ clear_all (lay_of l) b.now old w.old }
+fn clear_all(w: &mut [u32], b: &[u8], l: Plan, old: u32)
+    requires l_in_bounds { (lay_of l.sizes).words ≤ length w.old }
+    requires l_in_bounds_2 { (lay_of l.sizes).bytes ≤ length b.now }
+    ensures { w.new ≡ clear_all (lay_of l.sizes) b.now old w.old }
 {
     let n = lists::length_of(w, layout::weak_of(l));
-    let mut k: usize = 0;
-    while k < n {
+    for k in 0..n {
         clear_listed(w, b, l, old, k);
-        k += 1;
     }
 }
 
 // Both passes, given the old and the new white; the list is emptied.
-pub fn clear_weak_tables(w: &mut [u32], b: &[u8], l: Sizes, old: u32, white: u32)
-    requires laid { Laid (lay_of l) }
-    requires l_in_bounds { (lay_of l).words ≤ length w.old }
-    requires l_in_bounds_2 { (lay_of l).bytes ≤ length b.now }
-    ensures { w.new ≡ clear_weak_tables (lay_of l) b.now old white w.old }
+pub fn clear_weak_tables(w: &mut [u32], b: &[u8], l: Plan, old: u32, white: u32)
+    requires l_in_bounds { (lay_of l.sizes).words ≤ length w.old }
+    requires l_in_bounds_2 { (lay_of l.sizes).bytes ≤ length b.now }
+    ensures { w.new ≡ clear_weak_tables (lay_of l.sizes) b.now old white w.old }
 {
     keep_all(w, l, white);
     clear_all(w, b, l, old);

@@ -1,13 +1,14 @@
 -- Which question a number asks: its place in a table, from 0 on. Assumes nothing.
-use Rattle.std.specs.Prelude.{◌≡◌}
+use Rattle.std.specs.Prelude.{◌≡◌, Err, Result}
 use Rattle.std.proofs.Math.Path.{refl}
 use mathlib.Core.List.{List, [], ◌∷◌}
 use Prim.Native.Nat.{ℕ, zero, suc, ◌≤◌}
 use Rattle.std.proofs.Common.{arith}
 use Rattle.base.specs.Heap.{Heap}
+use Rattle.base.specs.declared.Refusal.TheVariants.{OutOfRange}
+use Rattle.base.specs.declared.Refusal.{Refusal}
 use Rattle.test1.specs.Calls.{ask}
 use Rattle.reads.specs.declared.Read.{Read}
-use Rattle.reads.specs.declared.Read.TheVariants.{Refused}
 
 abbrev pub rows : {A : Type 0} → List A → ℕ
 rows [] = 0
@@ -40,5 +41,5 @@ module _ {A B : Type 0} (none : B) (some : A → B) where
   past xs n h = past_end xs n (others_le (rows xs) n h)
 
 -- A number that names no question: 1 and 8 as every call, then 4.
-abbrev pub no_question : Heap → Read
-no_question = ask Refused (λ l h. Refused 4)
+abbrev pub no_question : Heap → Result Read Refusal
+no_question = ask Err (λ l h. Err OutOfRange)

@@ -2,7 +2,7 @@
 // thin function over `tracked`, which takes it by value. `track` does it for the header's words. No allocation changes the limit.
 #![tactic(auto)]
 
-ghost use Rattle.std.specs.Prelude.{◌≡◌, ◌+◌, ◌≤◌, min, max, length};
+ghost use Rattle.std.specs.Prelude.{◌≡◌, ◌≤◌, length};
 ghost use Rattle.counters.specs.Count.{tracked, counters_at, put_counters, would_pass, track};
 
 #[derive(Clone, Copy)]
@@ -12,31 +12,14 @@ pub struct Counters {
     pub limit: u64,
 }
 
-// The sum, which stops at the end of 32 bits.
-fn sum_of(x: u32, y: u32) -> u32
-    ensures { result ≡ min (x + y) 4294967295 }
-{
-    if y <= 4294967295 - x {
-        return x + y;
-    }
-    4294967295
-}
-
-fn larger(x: u32, y: u32) -> u32
-    ensures { result ≡ max x y }
-{
-    if x < y { y } else { x }
-}
-
-// The counters after an allocation of this size.
+// The counters after an allocation of this size. The sum stops at the end of 32 bits.
 pub fn tracked(c: Counters, size: u32) -> Counters
     ensures { result ≡ tracked c size }
 {
-    let total = sum_of(c.total, size);
-    let peak = larger(c.peak, total);
+    let total = c.total.saturating_add(size);
     Counters {
         total,
-        peak,
+        peak: c.peak.max(total),
         limit: c.limit,
     }
 }
@@ -82,7 +65,7 @@ pub fn put_counters(w: &mut [u32], c: Counters)
 pub fn would_pass(c: Counters, size: u32) -> bool
     ensures { result ≡ would_pass c size }
 {
-    2147483647 < sum_of(c.total, size)
+    2147483647 < c.total.saturating_add(size)
 }
 
 // An allocation of this size is tracked in the header.

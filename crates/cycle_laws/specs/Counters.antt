@@ -4,16 +4,14 @@
 --     stored_alike             what is reached, due, kept and spared is the same
 --     stored_marked, stored_whole, stored_ok, stored_noted     marking, rooms, the tri-colour invariant and the weak list
 --     stored_white             every occupied slot is in the current white
-use Rattle.std.specs.Prelude.{◌≡◌, ◌≢◌, ℕ, zero, suc, ◌+◌, ◌≤◌, ◌<◌, length}
+use Rattle.std.specs.Prelude.{◌≡◌, ◌≢◌, ℕ, zero, suc, ◌+◌, ◌≤◌, ◌<◌, length, Some, None, Option}
 use Rattle.std.proofs.Common.{sym, ap, subst, ◌∙◌, inl, inr, ⊎_elim, arith, length-set, get_or-set_same, get_or-set_other}
 use mathlib.Core.List.{List, Memᴰ}
 use Rattle.std.proofs.Math.Decide.{ℕ_discrete}
 use Rattle.base.specs.Ways.{if_eq}
 use Rattle.base.specs.Words.{at, put}
-use Rattle.arena.specs.declared.Named.TheVariants.{At, Stale}
 use Rattle.arena.specs.Slots.{named}
 use Rattle.value.specs.declared.TableRef.{TableRef}
-use Rattle.value.specs.declared.TableOr.{TableOr}
 use Rattle.layout.specs.declared.Lay.{Lay}
 use Rattle.layout.specs.Places.{PHASE, WHITE}
 use Rattle.lists.specs.declared.Item.{Item}
@@ -93,7 +91,7 @@ module _ (l : Lay) (ok : Laid l) (a : Apart l) (cell : ℕ) (counter : Counter c
   stored_named : (u : List ℕ) (k i g : ℕ) → named (arena_of l k) i g (stored cell n u) ≡ named (arena_of l k) i g u
   stored_named u k i g =
       named_shade (arena_of l k) i g (stored cell n u)
-      ∙ ap (λ (c : ℕ). if_eq c 0 Stale (At i)) (stored_shade u (ref k i g))
+      ∙ ap (λ (c : ℕ). if_eq c 0 None (Some i)) (stored_shade u (ref k i g))
       ∙ sym (named_shade (arena_of l k) i g u)
 
   -- What is reached, due, kept and spared is read from other words.
@@ -214,7 +212,7 @@ module _ (l : Lay) (ok : Laid l) (a : Apart l) (cell : ℕ) (counter : Counter c
 
       mode : (t : TableRef) → t.0 < l.tables.slots → weak_mode l (table_meta (body_at l.tables t.0) (stored cell n w)) (stored cell n w) b ≡ weak_mode l (table_meta (body_at l.tables t.0) w) w b
       mode t h =
-          ap (λ (x : TableOr). weak_mode l x (stored cell n w) b) (table_same ((stored_alike w).reads.tables t.0 h) (body_at l.tables t.0) (omega arith) (omega arith))
+          ap (λ (x : Option TableRef). weak_mode l x (stored cell n w) b) (table_same ((stored_alike w).reads.tables t.0 h) (body_at l.tables t.0) (omega arith) (omega arith))
           ∙ weak_mode_same (stored_alike w).reads b (table_meta (body_at l.tables t.0) w)
 
   -- Every occupied slot is in the current white.

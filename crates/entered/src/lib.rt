@@ -1,11 +1,2 @@
-// What a call has once test 1 let it in: specs/Entered.antt. A crate has a function, so here is one.
+// What a call has once test 1 let it in: specs/Entered.antt.
 #![tactic(auto)]
-
-ghost use Rattle.std.specs.Prelude.{◌≡◌};
-
-// The number that it is given.
-pub fn same(x: u32) -> u32
-    ensures { result ≡ x }
-{
-    x
-}

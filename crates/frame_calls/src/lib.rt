@@ -5,58 +5,51 @@
 ghost use Rattle.std.specs.Prelude.{◌≡◌, ◌≤◌, length};
 ghost use Rattle.layout.specs.Layout.{lay_of};
 ghost use Rattle.base.specs.Heap.{heap};
-ghost use Rattle.laid.specs.Laid.{Laid};
 ghost use Rattle.frame_calls.specs.FrameCalls.{set_frame_in, set_frame, set_ci_in, set_ci};
 
-use given::Served;
-use layout::{Opened, Sizes};
+use base::Refusal;
+use layout::Plan;
 
-fn set_frame_in(w: &mut [u32], l: Sizes, i: u32, n: u32) -> Served
-    requires laid { Laid (lay_of l) }
-    requires l_in_bounds { (lay_of l).words ≤ length w.old }
-    ensures { (result, w.new) ≡ set_frame_in i n (lay_of l) w.old }
+fn set_frame_in(w: &mut [u32], l: Plan, i: u32, n: u32) -> Result<(), Refusal>
+    requires l_in_bounds { (lay_of l.sizes).words ≤ length w.old }
+    ensures { (result, w.new) ≡ set_frame_in i n (lay_of l.sizes) w.old }
 {
     let k = base::wide(i);
     let f = base::wide(n);
-    if l.frames <= k {
-        return Served::Refused(4);
+    if l.sizes.frames <= k {
+        return Err(Refusal::OutOfRange);
     }
     if 256 < f {
-        return Served::Refused(4);
+        return Err(Refusal::OutOfRange);
     }
     main_record::set_frame_function(w, l, k, f);
-    Served::Done
+    Ok(())
 }
 
 // The function index of frame i is n: 4 past the last frame or past 256.
-pub fn set_frame(w: &mut [u32], b: &[u8], i: u32, n: u32) -> Served
+pub fn set_frame(w: &mut [u32], b: &[u8], i: u32, n: u32) -> Result<(), Refusal>
     ensures { (result, heap w.new b.now) ≡ set_frame i n (heap w.old b.now) }
 {
-    match test1::enter(w, b) {
-        Opened::Fits(l) => set_frame_in(w, l, i, n),
-        Opened::Refused(k) => Served::Refused(k),
-    }
+    let l = test1::enter(w, b)?;
+    set_frame_in(w, l, i, n)
 }
 
-fn set_ci_in(w: &mut [u32], l: Sizes, i: u32) -> Served
-    requires laid { Laid (lay_of l) }
-    requires l_in_bounds { (lay_of l).words ≤ length w.old }
-    ensures { (result, w.new) ≡ set_ci_in i (lay_of l) w.old }
+fn set_ci_in(w: &mut [u32], l: Plan, i: u32) -> Result<(), Refusal>
+    requires l_in_bounds { (lay_of l.sizes).words ≤ length w.old }
+    ensures { (result, w.new) ≡ set_ci_in i (lay_of l.sizes) w.old }
 {
     let k = base::wide(i);
-    if l.frames <= k {
-        return Served::Refused(4);
+    if l.sizes.frames <= k {
+        return Err(Refusal::OutOfRange);
     }
     main_record::set_main_ci(w, k);
-    Served::Done
+    Ok(())
 }
 
 // The current frame is i; 4 past the last frame.
-pub fn set_ci(w: &mut [u32], b: &[u8], i: u32) -> Served
+pub fn set_ci(w: &mut [u32], b: &[u8], i: u32) -> Result<(), Refusal>
     ensures { (result, heap w.new b.now) ≡ set_ci i (heap w.old b.now) }
 {
-    match test1::enter(w, b) {
-        Opened::Fits(l) => set_ci_in(w, l, i),
-        Opened::Refused(n) => Served::Refused(n),
-    }
+    let l = test1::enter(w, b)?;
+    set_ci_in(w, l, i)
 }

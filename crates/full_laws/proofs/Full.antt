@@ -5,7 +5,7 @@
 --     first_half           what is under way is given up, and nothing is freed
 --     second_half          the cycle that follows
 --     full_result, planned_full     the theorem; for the layout of any sizes
-use Rattle.std.specs.Prelude.{◌≡◌, ◌⊎◌, ◌≢◌, ltb, length}
+use Rattle.std.specs.Prelude.{◌≡◌, ◌⊎◌, ◌≢◌, ltb, length, Ok, Option, Result as Fallible, Some, None}
 use Rattle.std.proofs.Math.Path.{refl, sym, subst, ap}
 use Rattle.std.proofs.Common.{◌∙◌, inr, ⊎_elim, arith, get_or-set_same, get_or-set_other}
 use Rattle.std.proofs.Math.Bool.{cond}
@@ -16,6 +16,8 @@ use Rattle.std.proofs.Math.Decide.{ℕ_discrete}
 use Rattle.base.specs.Ways.{eq_yes, eq_no, le_yes, le_no}
 use Rattle.base.specs.Words.{at, put}
 use Rattle.base.specs.Heap.{Heap, heap}
+use Rattle.base.specs.declared.Refusal.{Refusal}
+use Rattle.lists.specs.declared.Item.{Item}
 use Rattle.value.specs.declared.UdRef.{UdRef}
 use Rattle.value.specs.declared.Value.{Value}
 use Rattle.value.specs.Handles.{put_handle}
@@ -24,7 +26,6 @@ use Rattle.layout.specs.declared.Lay.{Lay}
 use Rattle.layout.specs.Sizes.{SizesOk}
 use Rattle.layout.specs.Layout.{lay_of}
 use Rattle.layout.specs.Places.{PHASE, CURSOR_ARENA, CURSOR_SLOT, TOTAL, THRESHOLD, DEBT, INTERRUPTED, OUT, REMAINING}
-use Rattle.lists.specs.declared.Popped.{Popped}
 use Rattle.lists.specs.Lists.{length_of}
 use Rattle.lists.proofs.Laws.{pop_none}
 use Rattle.laid.specs.Laid.{Laid, laid_of}
@@ -51,8 +52,6 @@ use Rattle.sweep_laws.specs.Repaints.{repainted_keeps}
 use Rattle.sweep_laws.specs.Mixtures.{Outcome, Going, paused, marking, sweeping, Past}
 use Rattle.sweep_laws.proofs.Mixtures.{past_store, past_freed}
 use Rattle.sweep_laws.proofs.Finalizes.{finalize_step_lem, end_phase, past_step}
-use Rattle.pace.specs.declared.Half.{Half}
-use Rattle.pace.specs.declared.Half.TheVariants as half
 use Rattle.pace.specs.Pace.{steps_most, on_step, driven_for, driven, on_half, over, full_second, full_first, gave_up}
 use Rattle.pace_laws.specs.Budgets.{State, Awake, state_awake}
 use Rattle.pace_laws.specs.Ends.{sweep_most, queue_most, Done, G}
@@ -100,14 +99,14 @@ cost_step l h p = go (ℕ_discrete n 0) (ℕ_discrete n 1) (ℕ_discrete n 2)
         subst T (eq_no (at h.words PHASE) 0 A _ D e (eq_no (at h.words PHASE) 1 B _ D d (eq_no (at h.words PHASE) 2 C _ D f (eq_yes (at h.words PHASE) 3 D E D (omega (arith, p, e, d, f)) refl)))) tt
 
 -- Nothing is driven where the phase is at most `end`,
-driven_stop : (n : ℕ) (l : Lay) (kind end : ℕ) (h : Heap) → at h.words PHASE ≤ end → driven_for n l kind end h ≡ (half.Through, h)
+driven_stop : (n : ℕ) (l : Lay) (kind end : ℕ) (h : Heap) → at h.words PHASE ≤ end → driven_for n l kind end h ≡ (None, h)
 unfolding driven_for
 driven_stop zero l kind end h p = refl
-driven_stop (suc n) l kind end h p = sym (le_yes (at h.words PHASE) end (half.Through, h) _ (half.Through, h) p refl)
+driven_stop (suc n) l kind end h p = sym (le_yes (at h.words PHASE) end (None, h) _ (None, h) p refl)
 
 -- and k single steps are made where the first k states are above it and none hands out.
 driven_runs : (n k : ℕ) (l : Lay) (kind end : ℕ) (h : Heap) → k ≤ n → ((i : ℕ) → i < k → (end < at (singles l i h).words PHASE) × Costs (single_step l (singles l i h)).0) → at (singles l k h).words PHASE ≤ end
-    → driven_for n l kind end h ≡ (half.Through, singles l k h)
+    → driven_for n l kind end h ≡ (None, singles l k h)
 unfolding singles driven_for
 driven_runs n zero l kind end h f g p = driven_stop n l kind end h p
 driven_runs zero (suc k) l kind end h f g p = absurd (let z : ⊥ = omega (arith, f) in z)
@@ -117,10 +116,10 @@ driven_runs (suc n) (suc k) l kind end h f g p = first (driven_runs n k l kind e
     stepped (Cost c, y) s = refl
     stepped (Out r v, y) s = absurd s
 
-    first : driven_for n l kind end (single_step l h).1 ≡ (half.Through, singles l k (single_step l h).1) → driven_for (suc n) l kind end h ≡ (half.Through, singles l k (single_step l h).1)
+    first : driven_for n l kind end (single_step l h).1 ≡ (None, singles l k (single_step l h).1) → driven_for (suc n) l kind end h ≡ (None, singles l k (single_step l h).1)
     first rest =
         let q = g 0 (omega arith) in
-        sym (le_no (at h.words PHASE) end (half.Through, h) _ (half.Through, singles l k (single_step l h).1) q.0 (sym (stepped (single_step l h) q.1 ∙ rest)))
+        sym (le_no (at h.words PHASE) end (None, h) _ (None, singles l k (single_step l h).1) q.0 (sym (stepped (single_step l h) q.1 ∙ rest)))
 
 module _ (l : Lay) (ok : Laid l) (a : Apart l) (r : Rows l) (am : Ample l) (y : Bodies l) (w b : List ℕ) (long : l.words ≤ length w) (f : AllWhite l w) (none : length_of l.queue w ≡ 0)
     (v : Arenas l w) (pause : at w PHASE ≡ 0) where
@@ -202,7 +201,7 @@ module _ (l : Lay) (ok : Laid l) (a : Apart l) (r : Rows l) (am : Ample l) (y : 
 
   ended : single_step l h₁ ≡ (Cost 0, heap u h₁.bytes)
   unfolding finalize_step
-  ended = finalize_step_lem l h₁ (d v₀).finalize ∙ ap (λ (x : Popped × List ℕ). in_bytes (finalized l x) h₁.bytes) (pop_none l.queue h₁.words (calm_based l ok a (idle m (omega arith)).0 r b f none).queue)
+  ended = finalize_step_lem l h₁ (d v₀).finalize ∙ ap (λ (x : Option Item × List ℕ). in_bytes (finalized l x) h₁.bytes) (pop_none l.queue h₁.words (calm_based l ok a (idle m (omega arith)).0 r b f none).queue)
 
   calm₁ : Calm l w u
   calm₁ =
@@ -222,11 +221,11 @@ module _ (l : Lay) (ok : Laid l) (a : Apart l) (r : Rows l) (am : Ample l) (y : 
   above n (inr (inr e)) = omega (arith, e)
 
   -- So the first half does nothing but that.
-  first_half : driven l 4 1 h₀ ≡ (half.Through, heap u b)
+  first_half : driven l 4 1 h₀ ≡ (None, heap u b)
   unfolding driven
   first_half =
       driven_runs (steps_most l) (m + 1) l 4 1 h₀ (omega (arith, (d v₀).few)) steps (subst (λ (x : Heap). at x.words PHASE ≤ 1) (sym after) (omega (arith, phase₁)))
-      ∙ ap (λ (x : Heap). (half.Through, x)) after
+      ∙ ap (λ (x : Heap). (None, x)) after
     where
       steps : (i : ℕ) → i < m + 1 → (1 < at (singles l i h₀).words PHASE) × Costs (single_step l (singles l i h₀)).0
       steps i p = go (ℕ_discrete i m)
@@ -264,9 +263,9 @@ module _ (l : Lay) (ok : Laid l) (a : Apart l) (r : Rows l) (am : Ample l) (y : 
       (past_store l ok a r am y w b long f none v INTERRUPTED (omega arith) (omega arith) _ (heap u c) s))))
 
   -- The second half: a cycle, to Pause or to where a finalizer is handed out.
-  abbrev Came : Half × Heap → Type 0
-  Came (half.Through, h) = (at h.words PHASE ≡ 0) × Q h
-  Came (half.Handed x z, h) = Q h
+  abbrev Came : Option (UdRef × Value) × Heap → Type 0
+  Came (None, h) = (at h.words PHASE ≡ 0) × Q h
+  Came (Some (x, z), h) = Q h
 
   abbrev Up : ℕ → Heap → Type 0
   Up k h = Awake l (G l ok a r am y w b long f none v (queue_most l) k) (Done l ok a r am y w b long f none v k) h
@@ -304,7 +303,7 @@ module _ (l : Lay) (ok : Laid l) (a : Apart l) (r : Rows l) (am : Ample l) (y : 
       state = end_step l ok a r am y w b long f none v (k - 80) h (awake_first l ok a r am y w b long f none v k h s)
 
       turn : at h.words PHASE ≢ 0 → on_step 5 (single_step l h) (λ (x : Heap). driven_for n l 5 0 x) ≡ driven_for (suc n) l 5 0 h
-      turn z = le_no (at h.words PHASE) 0 (half.Through, h) _ (on_step 5 (single_step l h) (λ (x : Heap). driven_for n l 5 0 x)) (omega (arith, z)) refl
+      turn z = le_no (at h.words PHASE) 0 (None, h) _ (on_step 5 (single_step l h) (λ (x : Heap). driven_for n l 5 0 x)) (omega (arith, z)) refl
 
       -- a hand-out is in Finalize, so past the sweep
       out : Up k h → Costs (single_step l h).0 ⊎ Q (single_step l h).1
@@ -321,7 +320,7 @@ module _ (l : Lay) (ok : Laid l) (a : Apart l) (r : Rows l) (am : Ample l) (y : 
           go (yes z) (inr t) = subst Came (sym (driven_stop n l 5 0 g (omega (arith, z)))) (z, t.0)
 
   -- the definitions of specs/Full.antt, for these
-  abbrev Result : Answer × Heap → Type 0
+  abbrev Result : Fallible Answer Refusal × Heap → Type 0
   Result = Rattle.full_laws.specs.Full.Result l ok a r am y w b long f none v pause
 
   second_half : Result (full_second l (heap (start_cycle l u) b))
@@ -347,9 +346,9 @@ module _ (l : Lay) (ok : Laid l) (a : Apart l) (r : Rows l) (am : Ample l) (y : 
           ∙ get_or-set_other x TOTAL PHASE (memory_of x) 0 (λ z. omega (arith, z))
           ∙ e
 
-      go : (x : Half × Heap) → Came x → Result (on_half x (over update_threshold Ended))
-      go (half.Through, h) s = (past_cycle h.words h.bytes s.1, inl (refl, threshold h.words s.0))
-      go (half.Handed q z, h) s = (s, inr (q, z, refl))
+      go : (x : Option (UdRef × Value) × Heap) → Came x → Result (on_half x (over update_threshold (Ok Ended)))
+      go (None, h) s = (past_cycle h.words h.bytes s.1, inl (refl, threshold h.words s.0))
+      go (Some (q, z), h) s = (s, inr (q, z, refl))
 
   -- A full collection from Pause.
   pub full_result : at w INTERRUPTED ≡ 0 → Result (full_in l (heap w b))
@@ -358,20 +357,20 @@ module _ (l : Lay) (ok : Laid l) (a : Apart l) (r : Rows l) (am : Ample l) (y : 
     where
       whole : full_in l (heap w b) ≡ full_second l (heap (start_cycle l u) b)
       whole =
-          ap (λ (n : ℕ). cond (ltb 0 n) (Busy, heap w b) (full_first l (heap (gave_up l w) b))) e
+          ap (λ (n : ℕ). cond (ltb 0 n) (Ok Busy, heap w b) (full_first l (heap (gave_up l w) b))) e
           ∙ ap (λ (x : List ℕ). full_first l (heap x b)) gave_up_lem
-          ∙ ap (λ (x : Half × Heap). on_half x (λ (g : Heap). full_second l (heap (start_cycle l g.words) g.bytes))) first_half
+          ∙ ap (λ (x : Option (UdRef × Value) × Heap). on_half x (λ (g : Heap). full_second l (heap (start_cycle l g.words) g.bytes))) first_half
 
 -- For the layout of any sizes within their ranges.
 module _ (s : Sizes) (h : SizesOk s) (w b : List ℕ) (long : (lay_of s).words ≤ length w) (wide : (lay_of s).bytes ≤ length b) (pause : at w PHASE ≡ 0) (f : AllWhite (lay_of s) w)
     (none : length_of (lay_of s).queue w ≡ 0) (v : Arenas (lay_of s) w) where
-  abbrev x : Answer × Heap
+  abbrev x : Fallible Answer Refusal × Heap
   x = full_in (lay_of s) (heap w b)
 
   -- A full collection from Pause, none being out: it ends at Pause or hands a finalizer out, and the slots freed by then are exactly the
   -- occupied ones that are neither kept nor spared, each once.
   pub planned_full : at w INTERRUPTED ≡ 0
-      → Outcome (lay_of s) w b v (full_in (lay_of s) (heap w b)).1 × (((x.0 ≡ Ended) × (at x.1.words PHASE ≡ 0)) ⊎ ((q : UdRef) × (z : Value) × (x.0 ≡ Handed q z)))
+      → Outcome (lay_of s) w b v (full_in (lay_of s) (heap w b)).1 × (((x.0 ≡ Ok Ended) × (at x.1.words PHASE ≡ 0)) ⊎ ((q : UdRef) × (z : Value) × (x.0 ≡ Ok (Handed q z))))
   planned_full e =
       let c = full_result (lay_of s) (laid_of s h) (apart s) (rows s) (ample s) (bodies s) w b long f none v pause e in
       (past_freed (lay_of s) (laid_of s h) (apart s) (rows s) (ample s) (bodies s) w b long f none v wide (full_in (lay_of s) (heap w b)).1 c.0, c.1)

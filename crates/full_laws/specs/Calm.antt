@@ -2,12 +2,11 @@
 -- kept and spared is the same, and so are the arenas. Assumes nothing.
 --     Far, Calm, calm_put, calm_lists     such a change; a store of such a word, and the lists emptied
 --     calm_alike, calm_based              a collection from there is one from the words before
-use Rattle.std.specs.Prelude.{◌≡◌, refl, ◌⊎◌, ◌≢◌, List, ℕ, zero, suc, min, ◌+◌, ◌*◌, ◌≤◌, ◌<◌}
+use Rattle.std.specs.Prelude.{◌≡◌, refl, ◌⊎◌, ◌≢◌, List, ℕ, zero, suc, min, ◌+◌, ◌*◌, ◌≤◌, ◌<◌, Some, None}
 use Rattle.std.proofs.Common.{sym, subst, ap, ◌∙◌, inl, inr, ⊎_elim, arith, length-set, get_or-set_other}
 use Rattle.std.proofs.Math.ListN.{length}
 use Rattle.base.specs.Ways.{if_eq}
 use Rattle.base.specs.Words.{at, put}
-use Rattle.arena.specs.declared.Named.TheVariants.{At, Stale}
 use Rattle.arena.specs.Slots.{named}
 use Rattle.layout.specs.declared.Lay.{Lay}
 use Rattle.layout.specs.declared.List.{List as Part}
@@ -21,9 +20,8 @@ use Rattle.mark.specs.Words.{arena_of, colour_w, ops}
 use Rattle.propagate.specs.Roots.{clear_lists}
 use Rattle.mark_laws.specs.Apart.{Apart, Order, order, arena_header, arena_lists, arena_kind}
 use Rattle.mark_laws.specs.Colours.{named_shade}
-use Rattle.mark_laws.specs.Changes.{Marked, moves_marked, colour_in}
+use Rattle.mark_laws.specs.Changes.{Marked, moves_marked}
 use Rattle.mark_laws.specs.Moves.{still, emptied}
-use Rattle.mark_laws.specs.RootLinks.{cleared_moves}
 use Rattle.room_laws.proofs.Queues.{queue_count}
 use Rattle.reach.specs.Cycle.{AllWhite}
 use Rattle.reach.specs.Shades.{shade_alike}
@@ -31,7 +29,6 @@ use Rattle.atomic_laws.specs.Alikes.{Alike}
 use Rattle.atomic_laws.proofs.Alikes.{alike_back, kept_alike, spared_alike}
 use Rattle.cycle_laws.specs.Collects.{frame_one}
 use Rattle.sweep_laws.specs.Places.{Rows}
-use Rattle.sweep_laws.specs.Repaints.{Repainted}
 use Rattle.sweep_laws.specs.Mixtures.{Based}
 
 -- a word that is none of those
@@ -121,7 +118,7 @@ module _ (l : Lay) (ok : Laid l) (a : Apart l) where
     calm_named : (k i g : ℕ) → named (arena_of l k) i g u ≡ named (arena_of l k) i g w
     calm_named k i g =
         named_shade (arena_of l k) i g u
-        ∙ ap (λ (c : ℕ). if_eq c 0 Stale (At i)) (calm_shade (ref k i g))
+        ∙ ap (λ (c : ℕ). if_eq c 0 None (Some i)) (calm_shade (ref k i g))
         ∙ sym (named_shade (arena_of l k) i g w)
 
     pub calm_alike : Alike l w u

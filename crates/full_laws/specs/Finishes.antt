@@ -2,7 +2,7 @@
 -- steps with finishes in between is one of those that come to Pause. Assumes nothing.
 --     Stored, stored_put       words of pacing that were written
 --     finish_stores            what a finish does
-use Rattle.std.specs.Prelude.{◌≡◌, refl, Bool, true, false, cond, ◌⊎◌, ◌≢◌}
+use Rattle.std.specs.Prelude.{◌≡◌, refl, Bool, true, false, cond, ◌⊎◌, Ok, Err, Result}
 use Rattle.std.proofs.Common.{sym, ap, ◌∙◌, inl, inr, arith}
 use Rattle.std.proofs.Math.Path.{subst}
 use mathlib.Core.List.{List, [], ◌∷◌, ◌++◌}
@@ -11,13 +11,15 @@ use Rattle.std.proofs.Math.Decide.{ℕ_discrete, dec_lt}
 use Rattle.base.specs.Ways.{eq_yes, eq_no, le_yes, le_no}
 use Rattle.base.specs.Words.{at, put, get64}
 use Rattle.base.specs.Heap.{Heap, heap}
+use Rattle.base.specs.declared.Refusal.TheVariants.{WrongState}
+use Rattle.base.specs.declared.Refusal.{Refusal}
+use Rattle.std.specs.declared.ops.ControlFlow.TheVariants.{Continue, Break}
+use Rattle.std.specs.declared.ops.ControlFlow.{ControlFlow}
 use Rattle.value.specs.Handles.{put_handle}
 use Rattle.layout.specs.declared.Lay.{Lay}
 use Rattle.layout.specs.Places.{PHASE, TOTAL, ESTIMATE, THRESHOLD, DEBT, INTERRUPTED, OUT, REMAINING}
 use Rattle.accounts.specs.declared.Answer.{Answer}
-use Rattle.accounts.specs.declared.Answer.TheVariants.{Stepped, Unfinished, Ended, Failed, Refused}
-use Rattle.accounts.specs.declared.Turn.{Turn}
-use Rattle.accounts.specs.declared.Turn.TheVariants.{Left, Over}
+use Rattle.accounts.specs.declared.Answer.TheVariants.{Stepped, Unfinished, Ended, Failed}
 use Rattle.accounts.specs.Accounts.{update_threshold, step_ends, taken_back, after_cost}
 use Rattle.pace.specs.Pace.{on_turn, budgeted}
 use Rattle.pace_laws.specs.Ends.{Store, stores}
@@ -80,22 +82,22 @@ module _ (l : Lay) (h : Heap) where
   unfolding steps_on after_cost
   steps_goes kind left u s = go (ℕ_discrete (at u PHASE) 0) (dec_lt 100 left)
     where
-      T : Turn × List ℕ → Type 0
+      T : ControlFlow (Result Answer Refusal) ℕ × List ℕ → Type 0
       T x = Goes l h (on_turn (x.0, heap x.1 h.bytes) (λ k g. budgeted l kind k g)).1
 
       go : Dec (at u PHASE ≡ 0) → Dec (100 < left) → T (after_cost left 100 u)
-      go (yes e) d = subst T (eq_yes (at u PHASE) 0 (Over Ended, update_threshold u) _ _ e refl) (only (update_threshold u) (cycle_stored s))
+      go (yes e) d = subst T (eq_yes (at u PHASE) 0 (Break (Ok Ended), update_threshold u) _ _ e refl) (only (update_threshold u) (cycle_stored s))
       go (no e) (no d) =
-          subst T (eq_no (at u PHASE) 0 (Over Ended, update_threshold u) _ _ e (le_yes left 100 (Over Unfinished, step_ends u) (Left (left - 100), u) _ (omega (arith, d)) refl)) (only (step_ends u) (ends_stored s))
+          subst T (eq_no (at u PHASE) 0 (Break (Ok Ended), update_threshold u) _ _ e (le_yes left 100 (Break (Ok Unfinished), step_ends u) (Continue (left - 100), u) _ (omega (arith, d)) refl)) (only (step_ends u) (ends_stored s))
       go (no e) (yes d) =
-          subst T (eq_no (at u PHASE) 0 (Over Ended, update_threshold u) _ _ e (le_no left 100 (Over Unfinished, step_ends u) (Left (left - 100), u) _ d refl))
+          subst T (eq_no (at u PHASE) 0 (Break (Ok Ended), update_threshold u) _ _ e (le_no left 100 (Break (Ok Unfinished), step_ends u) (Continue (left - 100), u) _ d refl))
           (s.writes, inr (kind, left - 100, ap (λ (x : List ℕ). (budgeted l kind (left - 100) (heap x h.bytes)).1) s.is))
 
   -- A finish of a single step (1), a budgeted (2) or an automatic one (3), with success or failure.
   pub finish_stores : (ok : Bool) → 1 ≤ at h.words INTERRUPTED → at h.words INTERRUPTED ≤ 3 → Goes l h (finish_in ok l h).1
   unfolding finish_in resumed
   finish_stores ok low high =
-      subst (λ (x : Answer × Heap). Goes l h x.1) (eq_no (at h.words INTERRUPTED) 0 (Refused 5, h) _ _ (λ e. omega (arith, e, low)) refl) (by ok)
+      subst (λ (x : Result Answer Refusal × Heap). Goes l h x.1) (eq_no (at h.words INTERRUPTED) 0 (Err WrongState, h) _ _ (λ e. omega (arith, e, low)) refl) (by ok)
     where
       n : ℕ
       n = get64 h.words REMAINING
@@ -106,21 +108,21 @@ module _ (l : Lay) (h : Heap) where
       kept : Stored h.words (succeeded (taken_back h.words))
       kept = success_stored (back_stored (stored_none h.words))
 
-      T : Answer × Heap → Type 0
+      T : Result Answer Refusal × Heap → Type 0
       T x = Goes l h x.1
 
       -- by the kind of call that was interrupted
       resumes : Dec (at h.words INTERRUPTED ≡ 1) → Dec (at h.words INTERRUPTED ≡ 2)
           → T (resumed l (at h.words INTERRUPTED) (get64 h.words REMAINING) (heap (succeeded (taken_back h.words)) h.bytes))
-      resumes (yes e) d = subst T (eq_yes (at h.words INTERRUPTED) 1 (Stepped 100, g) _ _ e refl) (only (succeeded (taken_back h.words)) kept)
+      resumes (yes e) d = subst T (eq_yes (at h.words INTERRUPTED) 1 (Ok (Stepped 100), g) _ _ e refl) (only (succeeded (taken_back h.words)) kept)
       resumes (no e) (yes d) =
-          subst T (eq_no (at h.words INTERRUPTED) 1 (Stepped 100, g) _ _ e (eq_yes (at h.words INTERRUPTED) 2 (steps_on l 2 n g) _ _ d refl)) (steps_goes 2 n (succeeded (taken_back h.words)) kept)
+          subst T (eq_no (at h.words INTERRUPTED) 1 (Ok (Stepped 100), g) _ _ e (eq_yes (at h.words INTERRUPTED) 2 (steps_on l 2 n g) _ _ d refl)) (steps_goes 2 n (succeeded (taken_back h.words)) kept)
       resumes (no e) (no d) =
           subst T
-          (eq_no (at h.words INTERRUPTED) 1 (Stepped 100, g) _ _ e (eq_no (at h.words INTERRUPTED) 2 (steps_on l 2 n g) _ _ d
+          (eq_no (at h.words INTERRUPTED) 1 (Ok (Stepped 100), g) _ _ e (eq_no (at h.words INTERRUPTED) 2 (steps_on l 2 n g) _ _ d
           (eq_yes (at h.words INTERRUPTED) 3 (limited_in (steps_on l 3 n g)) _ _ (omega (arith, low, high, e, d)) refl)))
           (steps_goes 3 n (succeeded (taken_back h.words)) kept)
 
-      by : (ok : Bool) → Goes l h (cond ok (resumed l (at h.words INTERRUPTED) (get64 h.words REMAINING) (heap (succeeded (taken_back h.words)) h.bytes)) (Failed, heap (taken_back h.words) h.bytes)).1
+      by : (ok : Bool) → Goes l h (cond ok (resumed l (at h.words INTERRUPTED) (get64 h.words REMAINING) (heap (succeeded (taken_back h.words)) h.bytes)) (Ok Failed, heap (taken_back h.words) h.bytes)).1
       by false = only (taken_back h.words) (back_stored (stored_none h.words))
       by true = resumes (ℕ_discrete (at h.words INTERRUPTED) 1) (ℕ_discrete (at h.words INTERRUPTED) 2)

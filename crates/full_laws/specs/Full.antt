@@ -1,10 +1,11 @@
 -- A full collection from Pause: what it answers. That it does so, and what is freed by then, is proved in proofs/Full.antt.
 --     Result               what a full collection answers
-use Rattle.std.specs.Prelude.{◌≡◌, ◌⊎◌, length}
+use Rattle.std.specs.Prelude.{◌≡◌, ◌⊎◌, length, Ok, Result as Fallible}
 use mathlib.Core.List.{List}
 use Prim.Native.Nat.{ℕ, ◌≤◌}
 use Rattle.base.specs.Words.{at}
 use Rattle.base.specs.Heap.{Heap}
+use Rattle.base.specs.declared.Refusal.{Refusal}
 use Rattle.value.specs.declared.UdRef.{UdRef}
 use Rattle.value.specs.declared.Value.{Value}
 use Rattle.layout.specs.declared.Lay.{Lay}
@@ -27,5 +28,5 @@ module _ (l : Lay) (ok : Laid l) (a : Apart l) (r : Rows l) (am : Ample l) (y : 
   Q h = Past l ok a r am y w b long f none v h
 
   -- What a full collection answers: it ended, at Pause, or a finalizer is handed out.
-  abbrev pub Result : Answer × Heap → Type 0
-  Result (x, h) = Q h × (((x ≡ Ended) × (at h.words PHASE ≡ 0)) ⊎ ((q : UdRef) × (z : Value) × (x ≡ Handed q z)))
+  abbrev pub Result : Fallible Answer Refusal × Heap → Type 0
+  Result (x, h) = Q h × (((x ≡ Ok Ended) × (at h.words PHASE ≡ 0)) ⊎ ((q : UdRef) × (z : Value) × (x ≡ Ok (Handed q z))))

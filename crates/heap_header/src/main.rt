@@ -4,9 +4,8 @@
 
 ghost use Rattle.std.specs.Prelude.{◌+◌, ◌≤◌, ◌<◌, length};
 
-use layout::{Needs, Sizes};
-use newheap::Made;
-use print::{count, long, say, signed};
+use layout::Sizes;
+use print::{at, count, long, say, signed};
 use std::io;
 
 const ODD: u32 = 2779096485;
@@ -22,12 +21,10 @@ fn word(rt: &impl Print, w: &[u32], before: &[u8], p: usize, after: &[u8]) -> io
 fn alike(w: &[u32], p: usize, e: usize, x: u32) -> bool
     requires { e ≤ length w.now }
 {
-    let mut i = p;
-    while i < e {
+    for i in p..e {
         if w[i] != x {
             return false;
         }
-        i += 1;
     }
     true
 }
@@ -35,12 +32,10 @@ fn alike(w: &[u32], p: usize, e: usize, x: u32) -> bool
 fn alike_bytes(b: &[u8], p: usize, e: usize, x: u8) -> bool
     requires { e ≤ length b.now }
 {
-    let mut i = p;
-    while i < e {
+    for i in p..e {
         if b[i] != x {
             return false;
         }
-        i += 1;
     }
     true
 }
@@ -216,13 +211,13 @@ fn kept(rt: &impl Print, name: &[u8], same: bool) -> io::Result<()> {
 
 fn rest(rt: &impl Print, w: &[u32], b: &[u8], s: Sizes) -> io::Result<()> {
     match layout::needed(s) {
-        Needs::Room(n, m) => {
-            long(rt, b"words from ", n as u64, b" on: ")?;
+        Ok((n, m)) => {
+            at(rt, b"words from ", n, b" on: ")?;
             kept(rt, b"", alike(w, n, w.len(), ODD))?;
-            long(rt, b"bytes from ", m as u64, b" on: ")?;
+            at(rt, b"bytes from ", m, b" on: ")?;
             kept(rt, b"", alike_bytes(b, m, b.len(), 165))
         }
-        Needs::Refused(_) => say(rt, b"no heap\n"),
+        Err(_) => say(rt, b"no heap\n"),
     }
 }
 
@@ -232,8 +227,8 @@ fn show(rt: &impl Print, name: &[u8], w: &mut [u32], b: &mut [u8], s: Sizes) -> 
 {
     say(rt, name)?;
     match newheap::make_heap(w, b, s) {
-        Made::Done => say(rt, b": made\n")?,
-        Made::Refused(n) => count(rt, b": refused ", n, b"\n")?,
+        Ok(()) => say(rt, b": made\n")?,
+        Err(n) => count(rt, b": refused ", n.number(), b"\n")?,
     }
     header(rt, w)?;
     rest(rt, w, b, s)

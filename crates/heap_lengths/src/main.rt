@@ -4,15 +4,15 @@
 
 ghost use Rattle.std.specs.Prelude.{◌≤◌, ◌<◌, length};
 
+use base::Refusal;
 use layout::Sizes;
-use newheap::Made;
-use print::{count, long, say, smallest};
+use print::{at, count, say, smallest};
 use std::io;
 
-fn answer(rt: &impl Print, m: Made) -> io::Result<()> {
+fn answer(rt: &impl Print, m: Result<(), Refusal>) -> io::Result<()> {
     match m {
-        Made::Done => say(rt, b"made\n"),
-        Made::Refused(n) => count(rt, b"refused ", n, b"\n"),
+        Ok(()) => say(rt, b"made\n"),
+        Err(n) => count(rt, b"refused ", n.number(), b"\n"),
     }
 }
 
@@ -21,7 +21,7 @@ fn in_words(rt: &impl Print, w: &mut [u32], b: &mut [u8], n: usize) -> io::Resul
     requires { n ≤ length w.old }
 {
     let part = &mut w[..n];
-    long(rt, b"", n as u64, b" words: ")?;
+    at(rt, b"", n, b" words: ")?;
     answer(rt, newheap::make_heap(part, b, smallest()))
 }
 
@@ -29,7 +29,7 @@ fn in_bytes(rt: &impl Print, w: &mut [u32], b: &mut [u8], n: usize) -> io::Resul
     requires { n ≤ length b.old }
 {
     let part = &mut b[..n];
-    long(rt, b"", n as u64, b" bytes: ")?;
+    at(rt, b"", n, b" bytes: ")?;
     answer(rt, newheap::make_heap(w, part, smallest()))
 }
 
@@ -59,7 +59,7 @@ fn sized(rt: &impl Print, name: &[u8], n: usize, s: Sizes) -> io::Result<()> {
     let mut w = [0u32; 1300];
     let mut b = [0u8; 128];
     say(rt, name)?;
-    long(rt, b" ", n as u64, b": ")?;
+    at(rt, b" ", n, b": ")?;
     answer(rt, newheap::make_heap(&mut w, &mut b, s))
 }
 

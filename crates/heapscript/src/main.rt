@@ -117,7 +117,7 @@ fn run_last(
     Ok(())
 }
 
-// The whole input. A proved loop has to end, so it counts its turns down from a number that no run uses up.
+// The whole input. A proved loop has to end, so it counts its turns up to a number that no run reaches.
 fn run_all(
     rt: &impl Print,
     input: &mut impl Read,
@@ -127,14 +127,12 @@ fn run_all(
     line: &mut [u8],
 ) -> io::Result<()> {
     let mut s = script_input::start();
-    let mut turns = u64::MAX;
-    while 0 < turns {
+    for _ in 0..u64::MAX {
         let i = read_part(rt, input, w, b, made, line, s)?;
         s = i.reading;
         if !i.more {
             return run_last(rt, w, b, made, line, s);
         }
-        turns -= 1;
     }
     Ok(())
 }
@@ -142,7 +140,7 @@ fn run_all(
 fn main(rt: HostRuntime) -> io::Result<()> {
     let mut w = [0u32; 10034];
     let mut b = [0u8; 1024];
-    newheap::make_heap(&mut w, &mut b, print::heapscript());
+    let _ = newheap::make_heap(&mut w, &mut b, print::heapscript());
     let mut made = [0u32; 12289];
     let mut line = [0u8; 4097];
     run_all(&rt, &mut rt.reader(), &mut w, &mut b, &mut made, &mut line)

@@ -7,13 +7,13 @@ use Rattle.layout.specs.declared.Lay.{Lay}
 use Rattle.layout.specs.declared.Sizes.{Sizes}
 use Rattle.layout.specs.Sizes.{SizesOk}
 use Rattle.layout.specs.Layout.{lay_of}
-use Rattle.layout.specs.Fits.{Ok, ListOk, room, lay_ok, sizes_in_lem, sizes_of_lem}
+use Rattle.layout.specs.Fits.{Fits, ListOk, room, lay_ok, sizes_in_lem, sizes_of_lem}
 use Rattle.lists.specs.Lists.{RoomFor}
 use Rattle.main_record.specs.Parts.{Parts, parts}
 
 -- The layout fits the words and bytes that it says. It is shut, so that a proof sees one fact and not its fifty parts.
 unfoldable pub Laid : Lay → Type 0
-Laid l = Ok l l.words l.bytes
+Laid l = Fits l l.words l.bytes
 
 -- It is exactly that its sizes lie within their ranges.
 pub laid_of : (s : Sizes) → SizesOk s → Laid (lay_of s)

@@ -1,6 +1,8 @@
 -- What a layout gives that fits n words and m bytes: all that a call may use of it. Assumes nothing.
-use Rattle.std.specs.Prelude.{◌≡◌, refl, Bool, true, false, cond, List as Numbers, ℕ, ◌+◌, ◌*◌, ◌≤◌, length}
+use Rattle.std.specs.Prelude.{◌≡◌, refl, Bool, true, false, cond, List as Numbers, ℕ, ◌+◌, ◌*◌, ◌≤◌, length, Ok, Err, Result}
 use Rattle.std.proofs.Common.{sym, ap, true≢false, arith}
+use Rattle.base.specs.declared.Refusal.TheVariants.{OutOfRange}
+use Rattle.base.specs.declared.Refusal.{Refusal}
 use Rattle.arena.specs.declared.Arena.{Arena}
 use Rattle.arena.specs.Slots.{Room, Wide}
 use Rattle.layout.specs.Places.{GRAY, GRAYAGAIN, WEAK, QUEUE, STRINGS, TABLES, FUNCTIONS, UPVALUES, USERDATA, THREADS, HEADER, STRING_WORDS, TABLE_WORDS, FUNCTION_WORDS, UPVALUE_WORDS, USERDATA_WORDS, THREAD_WORDS, PROTO_WORDS, ITEM_WORDS, VALUE_WORDS, HANDLE_WORDS, STRING_BYTES}
@@ -10,8 +12,6 @@ use Rattle.layout.specs.declared.Sizes.{Sizes}
 use Rattle.layout.specs.declared.List.{List}
 use Rattle.layout.specs.declared.Part.{Part}
 use Rattle.layout.specs.declared.Lay.{Lay}
-use Rattle.layout.specs.declared.Opened.{Opened}
-use Rattle.layout.specs.declared.Opened.TheVariants.{Fits, Refused}
 
 -- An arena whose three words of the header are at t, with records of k words and texts of v bytes: what it has for each
 -- slot beside the body lies between the header and the boundary d, its bodies between there and the end.
@@ -40,7 +40,7 @@ pub record PartOk (p : Part) (k x d n : ℕ) : Type 0 where
   pub past : d ≤ p.base
   pub fits : p.base + k * p.room ≤ n
 
-pub record Ok (l : Lay) (n m : ℕ) : Type 0 where
+pub record Fits (l : Lay) (n m : ℕ) : Type 0 where
   pub header : HEADER ≤ n
   pub low : HEADER ≤ l.boundary
   pub boundary : l.boundary ≤ n
@@ -72,7 +72,7 @@ pub wide : {a : Arena} {t k v d n m : ℕ} (b : Numbers ℕ) → ArenaOk a t k v
 wide b h p = rw h.width (omega arith)
 
 -- sizes within their ranges give a layout that fits any words and bytes as long as it says
-pub lay_ok : (s : Sizes) (n m : ℕ) → SizesOk s → (lay_of s).words ≤ n → (lay_of s).bytes ≤ m → Ok (lay_of s) n m
+pub lay_ok : (s : Sizes) (n m : ℕ) → SizesOk s → (lay_of s).words ≤ n → (lay_of s).bytes ≤ m → Fits (lay_of s) n m
 unfolding lay_of
 lay_ok s n m h p q = record {
   header = omega arith;
@@ -100,14 +100,9 @@ lay_ok s n m h p q = record {
 }
 
 -- what an answer gives
-abbrev pub Gives : Opened → ℕ → ℕ → Type 0
-Gives (Fits s) n m = Ok (lay_of s) n m
-Gives (Refused k) n m = Unit {0}
-
--- chosen sizes that fit lie within their ranges
-abbrev pub Plans : Opened → Type 0
-Plans (Fits s) = SizesOk s
-Plans (Refused k) = Unit {0}
+abbrev pub Gives : Result Sizes Refusal → ℕ → ℕ → Type 0
+Gives (Ok s) n m = Fits (lay_of s) n m
+Gives (Err k) n m = Unit {0}
 
 -- the sizes that a layout was made from, and that those of a layout that fits lie within their ranges
 abbrev pub sizes_in : Lay → Sizes
@@ -124,7 +119,7 @@ sizes_in l = record {
   frames = l.frames.room;
 }
 
-pub sizes_in_lem : (l : Lay) (n m : ℕ) → Ok l n m → SizesOk (sizes_in l)
+pub sizes_in_lem : (l : Lay) (n m : ℕ) → Fits l n m → SizesOk (sizes_in l)
 sizes_in_lem l n m h = record {
   strings2 = h.two_strings;
   strings = h.strings.slots;
@@ -146,26 +141,26 @@ unfolding lay_of
 sizes_of_lem s h = h
 
 -- sizes are planned exactly within their ranges, as they are
-abbrev sizes_or : Sizes → Opened → Sizes
-sizes_or s (Fits z) = z
-sizes_or s (Refused n) = s
+abbrev sizes_or : Sizes → Result Sizes Refusal → Sizes
+sizes_or s (Ok z) = z
+sizes_or s (Err n) = s
 
-abbrev is_fits : Opened → Bool
-is_fits (Fits s) = true
-is_fits (Refused n) = false
+abbrev is_fits : Result Sizes Refusal → Bool
+is_fits (Ok s) = true
+is_fits (Err n) = false
 
-pub planned_fits : (s z : Sizes) → Fits z ≡ planned s → (sizes_fit s ≡ true) × (z ≡ s)
+pub planned_fits : (s z : Sizes) → Ok z ≡ planned s → (sizes_fit s ≡ true) × (z ≡ s)
 unfolding planned
 planned_fits s z p = cases (sizes_fit s) p
   where
-    cases : (b : Bool) → Fits z ≡ cond b (Fits s) (Refused 4) → (b ≡ true) × (z ≡ s)
+    cases : (b : Bool) → Ok z ≡ cond b (Ok s) (Err OutOfRange) → (b ≡ true) × (z ≡ s)
     cases true p = (refl, ap (sizes_or s) p)
     cases false p = absurd (true≢false (ap is_fits p))
 
-pub planned_refused : (s : Sizes) (n : ℕ) → Refused n ≡ planned s → sizes_fit s ≡ false
+pub planned_refused : (s : Sizes) (n : Refusal) → Err n ≡ planned s → sizes_fit s ≡ false
 unfolding planned
 planned_refused s n p = cases (sizes_fit s) p
   where
-    cases : (b : Bool) → Refused n ≡ cond b (Fits s) (Refused 4) → b ≡ false
+    cases : (b : Bool) → Err n ≡ cond b (Ok s) (Err OutOfRange) → b ≡ false
     cases true p = absurd (true≢false (sym (ap is_fits p)))
     cases false p = refl

@@ -2,7 +2,9 @@
 -- the top down. Low to high: the header; for each arena colours, generations, links and extents, a word for each slot in
 -- each; the four lists; then, past the one boundary, all that traversal reads: prototypes, main stack, main open list,
 -- frames, the bodies of the six arenas. Assumes nothing.
-use Rattle.std.specs.Prelude.{cond, ℕ, ◌+◌, ◌*◌}
+use Rattle.std.specs.Prelude.{cond, ℕ, ◌+◌, ◌*◌, Ok, Err, Result}
+use Rattle.base.specs.declared.Refusal.TheVariants.{OutOfRange}
+use Rattle.base.specs.declared.Refusal.{Refusal}
 use Rattle.arena.specs.declared.Arena.{Arena}
 use Rattle.layout.specs.Places.{GRAY, GRAYAGAIN, WEAK, QUEUE, STRINGS, TABLES, FUNCTIONS, UPVALUES, USERDATA, THREADS, HEADER, STRING_WORDS, TABLE_WORDS, FUNCTION_WORDS, UPVALUE_WORDS, USERDATA_WORDS, THREAD_WORDS, PROTO_WORDS, ITEM_WORDS, VALUE_WORDS, HANDLE_WORDS, STRING_BYTES}
 use Rattle.layout.specs.Sizes.{sizes_fit}
@@ -10,10 +12,6 @@ use Rattle.layout.specs.declared.Sizes.{Sizes}
 use Rattle.layout.specs.declared.List.{List}
 use Rattle.layout.specs.declared.Part.{Part}
 use Rattle.layout.specs.declared.Lay.{Lay}
-use Rattle.layout.specs.declared.Opened.{Opened}
-use Rattle.layout.specs.declared.Opened.TheVariants.{Fits, Refused}
-use Rattle.layout.specs.declared.Needs.{Needs}
-use Rattle.layout.specs.declared.Needs.TheVariants.{Room}
 
 -- Room of the working lists: gray, every table, closure and thread plus one; grayagain, every table and twice the threads
 -- plus one; weak, twice the tables; queue, every userdata.
@@ -173,13 +171,13 @@ lay_of s = record {
 }
 
 -- Sizes within their ranges, whose layout fits; a size outside its range is 4.
-unfoldable pub planned : Sizes → Opened
-planned s = cond (sizes_fit s) (Fits s) (Refused 4)
+unfoldable pub planned : Sizes → Result Sizes Refusal
+planned s = cond (sizes_fit s) (Ok s) (Err OutOfRange)
 
 -- The words and bytes that a heap of these sizes needs.
-abbrev pub room : Opened → Needs
-room (Fits s) = Room (lay_of s).words (lay_of s).bytes
-room (Refused n) = Needs.Refused n
+abbrev pub room : Result Sizes Refusal → Result (ℕ × ℕ) Refusal
+room (Ok s) = Ok ((lay_of s).words, (lay_of s).bytes)
+room (Err n) = Err n
 
-unfoldable pub needed_of : Sizes → Needs
+unfoldable pub needed_of : Sizes → Result (ℕ × ℕ) Refusal
 needed_of s = room (planned s)

@@ -3,3 +3,4 @@ pub mod Sizes
 pub mod Places
 pub mod Layout
 pub mod Fits
+pub mod Plans

@@ -2,13 +2,17 @@
 #![tactic(auto)]
 
 use arena::Arena;
+use base::Refusal;
 
 mod places;
+mod plans;
 
 ghost use Rattle.std.specs.Prelude.{◌≡◌, ℕ};
-ghost use Rattle.layout.specs.Sizes.{SizesOk, sizes_fit};
+ghost use Rattle.layout.specs.Sizes.{sizes_fit};
 ghost use Rattle.layout.specs.Layout.{lay_of, planned, needed_of};
-ghost use Rattle.layout.specs.Fits.{Plans};
+ghost use Rattle.layout.specs.Plans.{sizes_given};
+
+pub use plans::Plan;
 
 // The places of the header (specs/Places.antt says what stands there).
 pub const PROTOTYPES: usize = 10;
@@ -164,20 +168,6 @@ pub struct Lay {
     pub bytes: usize,
 }
 
-// The sizes of a layout that fits, or the number of a refusal.
-#[derive(Clone, Copy)]
-pub enum Opened {
-    Fits(Sizes),
-    Refused(u32),
-}
-
-// Words and bytes, or the number of a refusal.
-#[derive(Clone, Copy)]
-pub enum Needs {
-    Room(usize, usize),
-    Refused(u32),
-}
-
 // Whether each size lies within its range.
 pub fn sizes_fit(s: Sizes) -> bool
     ensures { result ≡ sizes_fit s }
@@ -198,268 +188,214 @@ pub fn sizes_fit(s: Sizes) -> bool
 }
 
 // These sizes, whose layout fits, or 4 where one lies outside its range.
-pub fn plan(s: Sizes) -> Opened
-    ensures { (result ≡ planned s) × Plans result }
+pub fn plan(s: Sizes) -> Result<Plan, Refusal>
+    ensures { sizes_given result ≡ planned s }
 {
     if !sizes_fit(s) {
-        return Opened::Refused(4);
+        return Err(Refusal::OutOfRange);
     }
-    Opened::Fits(s)
+    Ok(Plan { sizes: s })
 }
 
 // The parts of the layout, each computed where it is used: ten sizes are handed on, not the whole layout.
 
-pub fn strings_of(s: Sizes) -> Arena
-    requires { SizesOk s }
-    ensures { result ≡ (lay_of s).strings }
+pub fn strings_of(s: Plan) -> Arena
+    ensures { result ≡ (lay_of s.sizes).strings }
 {
-    let bodies = places::string_bodies_at(s);
     Arena {
         top: STRINGS,
         base: HEADER,
-        slots: s.strings,
-        bodies,
+        slots: s.sizes.strings,
+        bodies: places::string_bodies_at(s),
         stride: STRING_WORDS,
         width: STRING_BYTES,
     }
 }
 
-pub fn tables_of(s: Sizes) -> Arena
-    requires { SizesOk s }
-    ensures { result ≡ (lay_of s).tables }
+pub fn tables_of(s: Plan) -> Arena
+    ensures { result ≡ (lay_of s.sizes).tables }
 {
-    let bodies = places::table_bodies_at(s);
-    let base = places::tables_at(s);
     Arena {
         top: TABLES,
-        base,
-        slots: s.tables,
-        bodies,
+        base: places::tables_at(s),
+        slots: s.sizes.tables,
+        bodies: places::table_bodies_at(s),
         stride: TABLE_WORDS,
         width: 0,
     }
 }
 
-pub fn functions_of(s: Sizes) -> Arena
-    requires { SizesOk s }
-    ensures { result ≡ (lay_of s).functions }
+pub fn functions_of(s: Plan) -> Arena
+    ensures { result ≡ (lay_of s.sizes).functions }
 {
-    let bodies = places::function_bodies_at(s);
-    let base = places::functions_at(s);
     Arena {
         top: FUNCTIONS,
-        base,
-        slots: s.functions,
-        bodies,
+        base: places::functions_at(s),
+        slots: s.sizes.functions,
+        bodies: places::function_bodies_at(s),
         stride: FUNCTION_WORDS,
         width: 0,
     }
 }
 
-pub fn upvalues_of(s: Sizes) -> Arena
-    requires { SizesOk s }
-    ensures { result ≡ (lay_of s).upvalues }
+pub fn upvalues_of(s: Plan) -> Arena
+    ensures { result ≡ (lay_of s.sizes).upvalues }
 {
-    let bodies = places::upvalue_bodies_at(s);
-    let base = places::upvalues_at(s);
     Arena {
         top: UPVALUES,
-        base,
-        slots: s.upvalues,
-        bodies,
+        base: places::upvalues_at(s),
+        slots: s.sizes.upvalues,
+        bodies: places::upvalue_bodies_at(s),
         stride: UPVALUE_WORDS,
         width: 0,
     }
 }
 
-pub fn userdata_of(s: Sizes) -> Arena
-    requires { SizesOk s }
-    ensures { result ≡ (lay_of s).userdata }
+pub fn userdata_of(s: Plan) -> Arena
+    ensures { result ≡ (lay_of s.sizes).userdata }
 {
-    let bodies = places::userdata_bodies_at(s);
-    let base = places::userdata_at(s);
     Arena {
         top: USERDATA,
-        base,
-        slots: s.userdata,
-        bodies,
+        base: places::userdata_at(s),
+        slots: s.sizes.userdata,
+        bodies: places::userdata_bodies_at(s),
         stride: USERDATA_WORDS,
         width: 0,
     }
 }
 
-pub fn threads_of(s: Sizes) -> Arena
-    requires { SizesOk s }
-    ensures { result ≡ (lay_of s).threads }
+pub fn threads_of(s: Plan) -> Arena
+    ensures { result ≡ (lay_of s.sizes).threads }
 {
-    let bodies = places::thread_bodies_at(s);
-    let base = places::threads_at(s);
     Arena {
         top: THREADS,
-        base,
-        slots: s.threads,
-        bodies,
+        base: places::threads_at(s),
+        slots: s.sizes.threads,
+        bodies: places::thread_bodies_at(s),
         stride: THREAD_WORDS,
         width: 0,
     }
 }
 
-pub fn gray_of(s: Sizes) -> List
-    requires { SizesOk s }
-    ensures { result ≡ (lay_of s).gray }
+pub fn gray_of(s: Plan) -> List
+    ensures { result ≡ (lay_of s.sizes).gray }
 {
-    let base = places::gray_at(s);
-    let room = places::gray_room(s);
     List {
         count: GRAY,
-        base,
-        room,
+        base: places::gray_at(s),
+        room: places::gray_room(s),
     }
 }
 
-pub fn grayagain_of(s: Sizes) -> List
-    requires { SizesOk s }
-    ensures { result ≡ (lay_of s).grayagain }
+pub fn grayagain_of(s: Plan) -> List
+    ensures { result ≡ (lay_of s.sizes).grayagain }
 {
-    let base = places::grayagain_at(s);
-    let room = places::grayagain_room(s);
     List {
         count: GRAYAGAIN,
-        base,
-        room,
+        base: places::grayagain_at(s),
+        room: places::grayagain_room(s),
     }
 }
 
-pub fn weak_of(s: Sizes) -> List
-    requires { SizesOk s }
-    ensures { result ≡ (lay_of s).weak }
+pub fn weak_of(s: Plan) -> List
+    ensures { result ≡ (lay_of s.sizes).weak }
 {
-    let base = places::weak_at(s);
-    let room = places::weak_room(s);
     List {
         count: WEAK,
-        base,
-        room,
+        base: places::weak_at(s),
+        room: places::weak_room(s),
     }
 }
 
-pub fn queue_of(s: Sizes) -> List
-    requires { SizesOk s }
-    ensures { result ≡ (lay_of s).queue }
+pub fn queue_of(s: Plan) -> List
+    ensures { result ≡ (lay_of s.sizes).queue }
 {
-    let base = places::queue_at(s);
     List {
         count: QUEUE,
-        base,
-        room: s.userdata,
+        base: places::queue_at(s),
+        room: s.sizes.userdata,
     }
 }
 
 // Where the parts of the main record begin; each has as many places as its size says.
-pub fn protos_at(s: Sizes) -> usize
-    requires { SizesOk s }
-    ensures { result ≡ (lay_of s).protos.base }
+pub fn protos_at(s: Plan) -> usize
+    ensures { result ≡ (lay_of s.sizes).protos.base }
 {
     places::boundary_at(s)
 }
 
-pub fn stack_at(s: Sizes) -> usize
-    requires { SizesOk s }
-    ensures { result ≡ (lay_of s).stack.base }
+pub fn stack_at(s: Plan) -> usize
+    ensures { result ≡ (lay_of s.sizes).stack.base }
 {
     places::stack_at(s)
 }
 
-pub fn opens_at(s: Sizes) -> usize
-    requires { SizesOk s }
-    ensures { result ≡ (lay_of s).opens.base }
+pub fn opens_at(s: Plan) -> usize
+    ensures { result ≡ (lay_of s.sizes).opens.base }
 {
     places::opens_at(s)
 }
 
-pub fn frames_at(s: Sizes) -> usize
-    requires { SizesOk s }
-    ensures { result ≡ (lay_of s).frames.base }
+pub fn frames_at(s: Plan) -> usize
+    ensures { result ≡ (lay_of s.sizes).frames.base }
 {
     places::frames_at(s)
 }
 
 // The words and the bytes of a heap of these sizes.
-pub fn words_of(s: Sizes) -> usize
-    requires { SizesOk s }
-    ensures { result ≡ (lay_of s).words }
+pub fn words_of(s: Plan) -> usize
+    ensures { result ≡ (lay_of s.sizes).words }
 {
     places::words_at(s)
 }
 
-pub fn bytes_of(s: Sizes) -> usize
-    requires { SizesOk s }
-    ensures { result ≡ (lay_of s).bytes }
+pub fn bytes_of(s: Plan) -> usize
+    ensures { result ≡ (lay_of s.sizes).bytes }
 {
-    STRING_BYTES * s.strings
+    STRING_BYTES * s.sizes.strings
 }
 
 // The whole layout, for calls that are not in a hurry.
-pub fn lay_of(s: Sizes) -> Lay
-    requires { SizesOk s }
-    ensures { result ≡ lay_of s }
+pub fn lay_of(s: Plan) -> Lay
+    ensures { result ≡ lay_of s.sizes }
 {
-    let strings = strings_of(s);
-    let tables = tables_of(s);
-    let functions = functions_of(s);
-    let upvalues = upvalues_of(s);
-    let userdata = userdata_of(s);
-    let threads = threads_of(s);
-    let gray = gray_of(s);
-    let grayagain = grayagain_of(s);
-    let weak = weak_of(s);
-    let queue = queue_of(s);
-    let protos = protos_at(s);
-    let stack = stack_at(s);
-    let opens = opens_at(s);
-    let frames = frames_at(s);
-    let boundary = places::boundary_at(s);
-    let words = words_of(s);
-    let bytes = bytes_of(s);
     Lay {
-        strings,
-        tables,
-        functions,
-        upvalues,
-        userdata,
-        threads,
-        gray,
-        grayagain,
-        weak,
-        queue,
+        strings: strings_of(s),
+        tables: tables_of(s),
+        functions: functions_of(s),
+        upvalues: upvalues_of(s),
+        userdata: userdata_of(s),
+        threads: threads_of(s),
+        gray: gray_of(s),
+        grayagain: grayagain_of(s),
+        weak: weak_of(s),
+        queue: queue_of(s),
         protos: Part {
-            base: protos,
-            room: s.protos,
+            base: protos_at(s),
+            room: s.sizes.protos,
         },
         stack: Part {
-            base: stack,
-            room: s.stack,
+            base: stack_at(s),
+            room: s.sizes.stack,
         },
         opens: Part {
-            base: opens,
-            room: s.opens,
+            base: opens_at(s),
+            room: s.sizes.opens,
         },
         frames: Part {
-            base: frames,
-            room: s.frames,
+            base: frames_at(s),
+            room: s.sizes.frames,
         },
-        boundary,
-        words,
-        bytes,
+        boundary: places::boundary_at(s),
+        words: words_of(s),
+        bytes: bytes_of(s),
     }
 }
 
 // The words and bytes that a heap of these sizes needs, or 4 where one lies outside its range.
-pub fn needed(s: Sizes) -> Needs
+pub fn needed(s: Sizes) -> Result<(usize, usize), Refusal>
     ensures { result ≡ needed_of s }
 {
-    match plan(s) {
-        Opened::Fits(z) => Needs::Room(words_of(z), bytes_of(z)),
-        Opened::Refused(n) => Needs::Refused(n),
-    }
+    let z = plan(s)?;
+    Ok((words_of(z), bytes_of(z)))
 }

@@ -4,41 +4,28 @@
 
 ghost use Rattle.std.specs.Prelude.{◌≤◌, ◌<◌, length};
 
-use layout::Opened;
 use std::io;
-
-fn text(rt: &impl Print, s: &[u8]) -> io::Result<()> {
-    rt.write_all(s)
-}
-
-fn number(rt: &impl Print, n: usize) -> io::Result<()> {
-    rt.print(n)
-}
 
 // The number of the refusal, or 0 where the buffers fit.
 fn answer(w: &[u32], b: &[u8]) -> u32 {
     match test1::enter(w, b) {
-        Opened::Fits(_) => 0,
-        Opened::Refused(n) => n,
+        Ok(_) => 0,
+        Err(n) => n.number(),
     }
 }
 
 fn say(rt: &impl Print, a: u32) -> io::Result<()> {
     if a == 0 {
-        text(rt, b"fits\n")
+        print::say(rt, b"fits\n")
     } else {
-        text(rt, b"refused ")?;
-        number(rt, a as usize)?;
-        text(rt, b"\n")
+        print::count(rt, b"refused ", a, b"\n")
     }
 }
 
 // A line where the answer is another one than before.
 fn turn(rt: &impl Print, name: &[u8], n: usize, a: u32, last: u32) -> io::Result<u32> {
     if a != last {
-        text(rt, b"from ")?;
-        number(rt, n)?;
-        text(rt, name)?;
+        print::at(rt, b"from ", n, name)?;
         say(rt, a)?;
     }
     Ok(a)
@@ -48,34 +35,28 @@ fn turn(rt: &impl Print, name: &[u8], n: usize, a: u32, last: u32) -> io::Result
 fn cut_words(w: &[u32], b: &[u8], n: usize) -> u32
     requires { n ≤ length w.now }
 {
-    let part = &w[..n];
-    answer(part, b)
+    answer(&w[..n], b)
 }
 
 fn cut_bytes(w: &[u32], b: &[u8], n: usize) -> u32
     requires { n ≤ length b.now }
 {
-    let part = &b[..n];
-    answer(w, part)
+    answer(w, &b[..n])
 }
 
 // Every length of the words, from none to two more than needed.
 fn all_words(rt: &impl Print, w: &[u32], b: &[u8]) -> io::Result<()> {
     let mut last: u32 = 9;
-    let mut n: usize = 0;
-    while n <= w.len() {
+    for n in 0..=w.len() {
         last = turn(rt, b" words on: ", n, cut_words(w, b, n), last)?;
-        n += 1;
     }
     Ok(())
 }
 
 fn all_bytes(rt: &impl Print, w: &[u32], b: &[u8]) -> io::Result<()> {
     let mut last: u32 = 9;
-    let mut n: usize = 0;
-    while n <= b.len() {
+    for n in 0..=b.len() {
         last = turn(rt, b" bytes on: ", n, cut_bytes(w, b, n), last)?;
-        n += 1;
     }
     Ok(())
 }
@@ -88,10 +69,8 @@ fn odd(rt: &impl Print, w: &mut [u32], b: &[u8], p: usize, x: u32, name: &[u8]) 
     w[p] = x;
     let a = answer(w, b);
     w[p] = old;
-    text(rt, name)?;
-    text(rt, b" ")?;
-    number(rt, x as usize)?;
-    text(rt, b": ")?;
+    print::say(rt, name)?;
+    print::count(rt, b" ", x, b": ")?;
     say(rt, a)
 }
 
@@ -250,7 +229,7 @@ fn marked(rt: &impl Print, w: &mut [u32], b: &[u8]) -> io::Result<()>
     requires { 91 ≤ length w.old }
 {
     base::put(w, layout::DAMAGE, 1);
-    text(rt, b"with the damage mark, ")?;
+    print::say(rt, b"with the damage mark, ")?;
     odd(rt, w, b, layout::PHASE, 5, b"phase")
 }
 

@@ -3,30 +3,19 @@
 #![tactic(auto)]
 
 use arena::Arena;
-use layout::{Lay, List, Opened, Part, Sizes};
+use layout::{Lay, List, Part, Sizes};
+use print::{at, say};
 use std::io;
-
-fn text(rt: &impl Print, s: &[u8]) -> io::Result<()> {
-    rt.write_all(s)
-}
-
-fn number(rt: &impl Print, n: usize) -> io::Result<()> {
-    rt.print(n)
-}
 
 // A place of the header.
 fn word(rt: &impl Print, p: usize, name: &[u8]) -> io::Result<()> {
-    text(rt, b"  word ")?;
-    number(rt, p)?;
-    text(rt, b": ")?;
-    text(rt, name)?;
-    text(rt, b"\n")
+    at(rt, b"  word ", p, b": ")?;
+    say(rt, name)?;
+    say(rt, b"\n")
 }
 
 fn header(rt: &impl Print) -> io::Result<()> {
-    text(rt, b"header, ")?;
-    number(rt, layout::HEADER)?;
-    text(rt, b" words\n")?;
+    at(rt, b"header, ", layout::HEADER, b" words\n")?;
     header_first(rt)?;
     header_handles(rt)?;
     header_state(rt)?;
@@ -96,15 +85,9 @@ fn header_arenas(rt: &impl Print) -> io::Result<()> {
     word(rt, layout::THREADS, b"threads: head, fresh, count")
 }
 
-fn at(rt: &impl Print, before: &[u8], n: usize, after: &[u8]) -> io::Result<()> {
-    text(rt, before)?;
-    number(rt, n)?;
-    text(rt, after)
-}
-
 fn arena_line(rt: &impl Print, name: &[u8], a: Arena) -> io::Result<()> {
-    text(rt, b"  ")?;
-    text(rt, name)?;
+    say(rt, b"  ")?;
+    say(rt, name)?;
     at(rt, b": top ", a.top, b"")?;
     at(rt, b", table at ", a.base, b"")?;
     at(rt, b", ", a.slots, b" slots")?;
@@ -114,8 +97,8 @@ fn arena_line(rt: &impl Print, name: &[u8], a: Arena) -> io::Result<()> {
 }
 
 fn list_line(rt: &impl Print, name: &[u8], b: List) -> io::Result<()> {
-    text(rt, b"  ")?;
-    text(rt, name)?;
+    say(rt, b"  ")?;
+    say(rt, name)?;
     at(rt, b": count at ", b.count, b"")?;
     at(rt, b", items at ", b.base, b"")?;
     at(rt, b", room ", b.room, b"")?;
@@ -123,54 +106,40 @@ fn list_line(rt: &impl Print, name: &[u8], b: List) -> io::Result<()> {
 }
 
 fn part_line(rt: &impl Print, name: &[u8], p: Part, words: usize) -> io::Result<()> {
-    text(rt, b"  ")?;
-    text(rt, name)?;
+    say(rt, b"  ")?;
+    say(rt, name)?;
     at(rt, b": at ", p.base, b"")?;
     at(rt, b", room ", p.room, b"")?;
     at(rt, b", stride ", words, b"\n")
 }
 
 fn arenas(rt: &impl Print, l: Lay) -> io::Result<()> {
-    let strings = l.strings;
-    let tables = l.tables;
-    let functions = l.functions;
-    let upvalues = l.upvalues;
-    let userdata = l.userdata;
-    let threads = l.threads;
-    arena_line(rt, b"strings", strings)?;
-    arena_line(rt, b"tables", tables)?;
-    arena_line(rt, b"functions", functions)?;
-    arena_line(rt, b"upvalues", upvalues)?;
-    arena_line(rt, b"userdata", userdata)?;
-    arena_line(rt, b"threads", threads)
+    arena_line(rt, b"strings", l.strings)?;
+    arena_line(rt, b"tables", l.tables)?;
+    arena_line(rt, b"functions", l.functions)?;
+    arena_line(rt, b"upvalues", l.upvalues)?;
+    arena_line(rt, b"userdata", l.userdata)?;
+    arena_line(rt, b"threads", l.threads)
 }
 
 fn lists(rt: &impl Print, l: Lay) -> io::Result<()> {
-    let gray = l.gray;
-    let grayagain = l.grayagain;
-    let weak = l.weak;
-    let queue = l.queue;
-    list_line(rt, b"gray", gray)?;
-    list_line(rt, b"grayagain", grayagain)?;
-    list_line(rt, b"weak", weak)?;
-    list_line(rt, b"queue", queue)
+    list_line(rt, b"gray", l.gray)?;
+    list_line(rt, b"grayagain", l.grayagain)?;
+    list_line(rt, b"weak", l.weak)?;
+    list_line(rt, b"queue", l.queue)
 }
 
 fn parts(rt: &impl Print, l: Lay) -> io::Result<()> {
-    let protos = l.protos;
-    let stack = l.stack;
-    let opens = l.opens;
-    let frames = l.frames;
-    part_line(rt, b"prototypes", protos, layout::PROTO_WORDS)?;
-    part_line(rt, b"main stack", stack, layout::VALUE_WORDS)?;
-    part_line(rt, b"main open list", opens, layout::HANDLE_WORDS)?;
-    part_line(rt, b"frames", frames, 1)
+    part_line(rt, b"prototypes", l.protos, layout::PROTO_WORDS)?;
+    part_line(rt, b"main stack", l.stack, layout::VALUE_WORDS)?;
+    part_line(rt, b"main open list", l.opens, layout::HANDLE_WORDS)?;
+    part_line(rt, b"frames", l.frames, 1)
 }
 
 fn show(rt: &impl Print, name: &[u8], s: Sizes) -> io::Result<()> {
-    text(rt, name)?;
+    say(rt, name)?;
     match layout::plan(s) {
-        Opened::Fits(z) => {
+        Ok(z) => {
             let l = layout::lay_of(z);
             at(rt, b": ", l.words, b" words, ")?;
             at(rt, b"", l.bytes, b" bytes, ")?;
@@ -179,7 +148,7 @@ fn show(rt: &impl Print, name: &[u8], s: Sizes) -> io::Result<()> {
             lists(rt, l)?;
             parts(rt, l)
         }
-        Opened::Refused(n) => at(rt, b": refused ", n as usize, b"\n"),
+        Err(n) => at(rt, b": refused ", n.number() as usize, b"\n"),
     }
 }
 
@@ -198,40 +167,10 @@ fn alike(slots: usize, places: usize, opens: usize, frames: usize) -> Sizes {
     }
 }
 
-fn smallest() -> Sizes {
-    Sizes {
-        strings: 2,
-        tables: 2,
-        functions: 0,
-        upvalues: 0,
-        userdata: 0,
-        threads: 0,
-        protos: 0,
-        stack: 0,
-        opens: 0,
-        frames: 1,
-    }
-}
-
-fn heapscript() -> Sizes {
-    Sizes {
-        strings: 16,
-        tables: 16,
-        functions: 0,
-        upvalues: 0,
-        userdata: 16,
-        threads: 0,
-        protos: 0,
-        stack: 32,
-        opens: 0,
-        frames: 1,
-    }
-}
-
 fn main(rt: HostRuntime) -> io::Result<()> {
     header(&rt)?;
-    show(&rt, b"the smallest heap", smallest())?;
-    show(&rt, b"heapscript's heap", heapscript())?;
+    show(&rt, b"the smallest heap", print::smallest())?;
+    show(&rt, b"heapscript's heap", print::heapscript())?;
     show(&rt, b"the largest heap", alike(4096, 256, 64, 32))?;
     show(&rt, b"one slot more", alike(4097, 256, 64, 32))?;
     show(&rt, b"one string only", alike(1, 256, 64, 32))

@@ -36,29 +36,17 @@ fn digits_at(s: &[u8], at: usize) -> usize
     requires { at ≤ length s.now }
     ensures { (at ≤ result) × (result ≤ length s.now) }
 {
-    let mut i = at;
-    while i < s.len() {
-        let c = s[i];
-        if (b'0' <= c) & (c <= b'9') {
+    for i in at..s.len() {
+        if s[i].is_ascii_digit() || s[i] == b'\n' {
             return i;
         }
-        if c == b'\n' {
-            return i;
-        }
-        i += 1;
     }
-    i
-}
-
-fn wide8(x: u8) -> u64
-    ensures { (result ≡ x) × (result < 256) }
-{
-    x as u64
+    s.len()
 }
 
 // A number with one more digit, which stops at 32 bits.
 fn longer(value: u32, digit: u8) -> u32 {
-    let long = (value as u64) * 10 + wide8(digit);
+    let long = u64::from(value) * 10 + u64::from(digit);
     if long < 4294967296 {
         long as u32
     } else {
@@ -71,20 +59,18 @@ pub fn number_at(s: &[u8], at: usize) -> Number
     requires { at ≤ length s.now }
     ensures { (at ≤ result.next) × (result.next ≤ length s.now) }
 {
-    let mut i = digits_at(s, at);
     let mut value: u32 = 0;
-    while i < s.len() {
+    for i in digits_at(s, at)..s.len() {
         let c = s[i];
-        if c < b'0' {
-            return Number { value, next: i };
-        }
-        if b'9' < c {
+        if !c.is_ascii_digit() {
             return Number { value, next: i };
         }
         value = longer(value, c - b'0');
-        i += 1;
     }
-    Number { value, next: i }
+    Number {
+        value,
+        next: s.len(),
+    }
 }
 
 // The place past this line's end.
@@ -92,12 +78,10 @@ pub fn line_end(s: &[u8], at: usize) -> usize
     requires { at < length s.now }
     ensures { (at < result) × (result ≤ length s.now) }
 {
-    let mut i = at;
-    while i < s.len() {
+    for i in at..s.len() {
         if s[i] == b'\n' {
             return i + 1;
         }
-        i += 1;
     }
-    i
+    s.len()
 }

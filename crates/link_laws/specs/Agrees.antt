@@ -4,7 +4,7 @@
 --     each_same                        lists joined, each the same
 --     upvalue_same, userdata_same, thread_same, entries_same     the links of a record that lies there
 --     proto-same, closure_same         a closure's, with the prototypes' part
-use Rattle.std.specs.Prelude.{◌≡◌, true, false, eqb}
+use Rattle.std.specs.Prelude.{◌≡◌, true, false, eqb, Option}
 use Rattle.std.proofs.Math.Path.{refl, sym, ap}
 use Rattle.std.proofs.Common.{◌∙◌}
 use Rattle.std.proofs.Math.Bool.{Bool, cond}
@@ -14,8 +14,8 @@ use Rattle.std.proofs.Math.Decide.{dec_lt}
 use native.Mathlib.Omega.{arith}
 use Rattle.base.specs.Ways.{if_lt, if_eq, lt_yes, lt_no, le_yes, le_no}
 use Rattle.base.specs.Words.{at, bounded}
+use Rattle.value.specs.declared.TableRef.{TableRef}
 use Rattle.value.specs.declared.UpvalRef.{UpvalRef}
-use Rattle.value.specs.declared.TableOr.{TableOr}
 use Rattle.value.specs.declared.Value.{Value}
 use Rattle.value.specs.Values.{is_nil, value_at}
 use Rattle.value.specs.Handles.{handle_at, table_or_at, str_or_at}
@@ -109,14 +109,14 @@ module _ {w u : List ℕ} {p : ℕ} where
   pub userdata_same : Agree w u p 4 → userdata_links u p ≡ userdata_links w p
   unfolding userdata_links
   userdata_same s =
-      ap (λ (t : TableOr). table_link t ++ table_link (ud_env p u)) (table_same s p (omega arith) (omega arith))
-      ∙ ap (λ (t : TableOr). table_link (ud_meta p w) ++ table_link t) (table_same s (p + 2) (omega arith) (omega arith))
+      ap (λ (t : Option TableRef). table_link t ++ table_link (ud_env p u)) (table_same s p (omega arith) (omega arith))
+      ∙ ap (λ (t : Option TableRef). table_link (ud_meta p w) ++ table_link t) (table_same s (p + 2) (omega arith) (omega arith))
 
   -- a thread
   pub thread_same : Agree w u p 268 → thread_links u p ≡ thread_links w p
   unfolding thread_links stack_links
   thread_same s =
-      ap (λ (t : TableOr). whole (table_link t) (value_links (thread_hook p u)) (thread_top p u) (thread_open_count p u) (thread_suspended_count p u) u) (table_same s p (omega arith) (omega arith))
+      ap (λ (t : Option TableRef). whole (table_link t) (value_links (thread_hook p u)) (thread_top p u) (thread_open_count p u) (thread_suspended_count p u) u) (table_same s p (omega arith) (omega arith))
       ∙ ap (λ (v : Value). whole G (value_links v) (thread_top p u) (thread_open_count p u) (thread_suspended_count p u) u) (value_same s (p + 2) (omega arith) (omega arith))
       ∙ ap (λ (x : ℕ). whole G H (min (at u (p + 9)) (bounded x 64)) (thread_open_count p u) (thread_suspended_count p u) u) (s.word (p + 8) (omega arith) (omega arith))
       ∙ ap (λ (x : ℕ). whole G H (min x (thread_size p w)) (thread_open_count p u) (thread_suspended_count p u) u) (s.word (p + 9) (omega arith) (omega arith))
@@ -271,7 +271,7 @@ module _ (l : Lay) {w u : List ℕ} (h : Agree w u 0 52) (s : Agree w u l.protos
   pub closure_same : (p : ℕ) → Agree w u p 53 → closure_links u l p ≡ closure_links w l p
   unfolding closure_links
   closure_same p t =
-      ap (λ (e : TableOr). whole e (is_rust p u) (closure_count p u) (closure_proto p u) u) (table_same t (p + 1) (omega arith) (omega arith))
+      ap (λ (e : Option TableRef). whole e (is_rust p u) (closure_count p u) (closure_proto p u) u) (table_same t (p + 1) (omega arith) (omega arith))
       ∙ ap (λ (x : ℕ). whole (closure_env p w) (eqb x 1) (closure_count p u) (closure_proto p u) u) (t.word p (omega arith) (omega arith))
       ∙ ap (λ (x : ℕ). whole (closure_env p w) (is_rust p w) (bounded x 16) (closure_proto p u) u) (t.word (p + 4) (omega arith) (omega arith))
       ∙ ap (λ (x : ℕ). whole (closure_env p w) (is_rust p w) (closure_count p w) x u) (t.word (p + 3) (omega arith) (omega arith))
@@ -280,7 +280,7 @@ module _ (l : Lay) {w u : List ℕ} (h : Agree w u 0 52) (s : Agree w u l.protos
       ∙ ap (λ (x : List Ref). E ++ cond (is_rust p w) Vs (x ++ proto_links u l (closure_proto p w))) (upvals_same t (p + 5) (closure_count p w) (omega arith) (omega (arith, bounded_most (at w (p + 4)) 16)))
       ∙ ap (λ (x : List Ref). E ++ cond (is_rust p w) Vs (each (λ i. upval (closure_upvalue p i w) ∷ []) (closure_count p w) 0 ++ x)) (below_same (suc (closure_proto p w)) (closure_proto p w))
     where
-      whole : TableOr → Bool → ℕ → ℕ → List ℕ → List Ref
+      whole : Option TableRef → Bool → ℕ → ℕ → List ℕ → List Ref
       whole e r c n x =
           table_link e
           ++ cond r (each (λ i. value_links (closure_value p i x)) c 0)

@@ -4,7 +4,7 @@
 --     named_below               a handle names a slot below the slots
 --     weak_mode_same, gc_method_same     the mode and the method that a metatable gives
 --     links_same                the links of a slot
-use Rattle.std.specs.Prelude.{◌≡◌, Bool, true, false, leb, eqb}
+use Rattle.std.specs.Prelude.{◌≡◌, Bool, true, false, leb, eqb, Some, None, Option}
 use Rattle.std.proofs.Math.Path.{refl, ap}
 use Rattle.std.proofs.Common.{◌∙◌, arith, leb-false}
 use Rattle.std.proofs.Math.Bool.{cond}
@@ -13,15 +13,9 @@ use Prim.Native.Nat.{ℕ, zero, suc, ◌+◌, ◌*◌, ◌≤◌, ◌<◌}
 use Rattle.base.specs.Ways.{if_le, if_eq}
 use Rattle.base.specs.Words.{at, bounded}
 use Rattle.arena.specs.declared.Arena.{Arena}
-use Rattle.arena.specs.declared.Named.{Named}
-use Rattle.arena.specs.declared.Named.TheVariants.{At, Stale}
 use Rattle.arena.specs.Slots.{used, gen, colour, named, Within}
 use Rattle.value.specs.declared.StrRef.{StrRef}
 use Rattle.value.specs.declared.TableRef.{TableRef}
-use Rattle.value.specs.declared.StrOr.{StrOr}
-use Rattle.value.specs.declared.StrOr.TheVariants.{Absent as NoStr, Present as SomeStr}
-use Rattle.value.specs.declared.TableOr.{TableOr}
-use Rattle.value.specs.declared.TableOr.TheVariants.{Absent as NoTable, Present as SomeTable}
 use Rattle.value.specs.declared.Value.{Value}
 use Rattle.value.specs.declared.Value.TheVariants.{Nil, Boolean, Light, Number, Str, Table, Function, Userdata, Thread}
 use Rattle.value.specs.Values.{key_equal}
@@ -57,7 +51,7 @@ pub named_below : (a : Arena) (i g : ℕ) (w : List ℕ) → Within (named a i g
 unfolding named if_le if_eq
 named_below a i g w = go (leb (used a w) i) refl (eqb (gen a i w) g) (eqb (colour a i w) 0)
   where
-    go : (x : Bool) → leb (used a w) i ≡ x → (y z : Bool) → Within (cond x Stale (cond y (cond z Stale (At i)) Stale)) a.slots
+    go : (x : Bool) → leb (used a w) i ≡ x → (y z : Bool) → Within (cond x None (cond y (cond z None (Some i)) None)) a.slots
     go true e y z = tt
     go false e true true = tt
     go false e true false = omega (arith, leb-false (used a w) i e)
@@ -77,23 +71,23 @@ module _ {l : Lay} {w u : List ℕ} (s : Reads l w u) where
   unfolding field_named
   field_named_same t x = ap (field_at l x u) (s.table_names_lem t.0 t.1) ∙ go (named l.tables t.0 t.1 w) (named_below l.tables t.0 t.1 w)
     where
-      go : (n : Named) → Within n l.tables.slots → field_at l x u n ≡ field_at l x w n
-      go (At i) h =
+      go : (n : Option ℕ) → Within n l.tables.slots → field_at l x u n ≡ field_at l x w n
+      go (Some i) h =
           ap (λ (n : ℕ). look_from n 0 (body_at l.tables i) x u) (nodes_same (s.tables i h))
           ∙ look_same (node_count (body_at l.tables i) w) 0 (body_at l.tables i) x (omega (arith, nodes_most (at w (body_at l.tables i + 3)))) (s.tables i h)
-      go Stale h = refl
+      go None h = refl
 
-  field_same : (t : TableRef) (x : StrOr) → field l t x u ≡ field l t x w
+  field_same : (t : TableRef) (x : Option StrRef) → field l t x u ≡ field l t x w
   unfolding field
-  field_same t (SomeStr x) = field_named_same t x
-  field_same t NoStr = refl
+  field_same t (Some x) = field_named_same t x
+  field_same t None = refl
 
   -- The `__gc` method that a metatable gives.
-  pub gc_method_same : (t : TableOr) → gc_method l t u ≡ gc_method l t w
+  pub gc_method_same : (t : Option TableRef) → gc_method l t u ≡ gc_method l t w
   unfolding gc_method
-  gc_method_same NoTable = refl
-  gc_method_same (SomeTable t) =
-      ap (λ (x : StrOr). field l t x u) (str_same s.header NAME_GC (omega arith) (omega arith))
+  gc_method_same None = refl
+  gc_method_same (Some t) =
+      ap (λ (x : Option StrRef). field l t x u) (str_same s.header NAME_GC (omega arith) (omega arith))
       ∙ field_same t (gc_name w)
 
   module _ (b : List ℕ) where
@@ -101,9 +95,9 @@ module _ {l : Lay} {w u : List ℕ} (s : Reads l w u) where
     unfolding mode_of_string
     string_mode_same x = ap (mode_of_slot l u b) (s.string_names x.0 x.1) ∙ go (named l.strings x.0 x.1 w) (named_below l.strings x.0 x.1 w)
       where
-        go : (n : Named) → Within n l.strings.slots → mode_of_slot l u b n ≡ mode_of_slot l w b n
-        go (At i) h = ap (λ (k : ℕ). mode_of_text (text_of i (bounded k 64) b)) ((s.strings i h).word (body_at l.strings i) (omega arith) (omega arith))
-        go Stale h = refl
+        go : (n : Option ℕ) → Within n l.strings.slots → mode_of_slot l u b n ≡ mode_of_slot l w b n
+        go (Some i) h = ap (λ (k : ℕ). mode_of_text (text_of i (bounded k 64) b)) ((s.strings i h).word (body_at l.strings i) (omega arith) (omega arith))
+        go None h = refl
 
     value_mode_same : (v : Value) → mode_of_value l v u b ≡ mode_of_value l v w b
     unfolding mode_of_value
@@ -118,11 +112,11 @@ module _ {l : Lay} {w u : List ℕ} (s : Reads l w u) where
     value_mode_same (Thread r) = refl
 
     -- The mode that a metatable gives.
-    pub weak_mode_same : (t : TableOr) → weak_mode l t u b ≡ weak_mode l t w b
+    pub weak_mode_same : (t : Option TableRef) → weak_mode l t u b ≡ weak_mode l t w b
     unfolding weak_mode
-    weak_mode_same NoTable = refl
-    weak_mode_same (SomeTable t) =
-        ap (λ (x : StrOr). mode_of_value l (field l t x u) u b) (str_same s.header NAME_MODE (omega arith) (omega arith))
+    weak_mode_same None = refl
+    weak_mode_same (Some t) =
+        ap (λ (x : Option StrRef). mode_of_value l (field l t x u) u b) (str_same s.header NAME_MODE (omega arith) (omega arith))
         ∙ ap (λ (v : Value). mode_of_value l v u b) (field_same t (mode_name w))
         ∙ value_mode_same (field l t (mode_name w) w)
 
@@ -130,7 +124,7 @@ module _ {l : Lay} {w u : List ℕ} (s : Reads l w u) where
     pub table_links_same : (i : ℕ) → i < l.tables.slots → table_links u l b (body_at l.tables i) ≡ table_links w l b (body_at l.tables i)
     unfolding table_links
     table_links_same i h =
-        ap (λ (t : TableOr). table_link t ++ entry_links u (weak_mode l t u b) p) (table_same (s.tables i h) p (omega arith) (omega arith))
+        ap (λ (t : Option TableRef). table_link t ++ entry_links u (weak_mode l t u b) p) (table_same (s.tables i h) p (omega arith) (omega arith))
         ∙ ap (λ (m : Mode). table_link (table_meta p w) ++ entry_links u m p) (weak_mode_same (table_meta p w))
         ∙ ap (λ (x : List Ref). table_link (table_meta p w) ++ x) (entries_same (s.tables i h) (weak_mode l (table_meta p w) w b))
       where

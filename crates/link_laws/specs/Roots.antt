@@ -2,16 +2,15 @@
 -- same roots. Assumes nothing.
 --     MainReads           the two words agree on the three parts of the main record
 --     root_links_same, main_links_same, roots_same     the roots
-use Rattle.std.specs.Prelude.{◌≡◌, refl}
+use Rattle.std.specs.Prelude.{◌≡◌, refl, Option}
 use Rattle.std.proofs.Common.{sym, ◌∙◌, arith}
 use Rattle.std.proofs.Math.Path.{ap}
 use mathlib.Core.List.{List, [], ◌∷◌, ◌++◌}
 use Prim.Native.Nat.{ℕ, min, ◌+◌, ◌-◌, ◌*◌, ◌≤◌, ◌<◌}
 use Rattle.std.proofs.Math.Decide.{dec_lt}
-use Rattle.base.specs.Ways.{if_lt, lt_yes, lt_no}
-use Rattle.base.specs.Words.{at}
-use Rattle.value.specs.declared.StrOr.{StrOr}
-use Rattle.value.specs.declared.TableOr.{TableOr}
+use Rattle.base.specs.Ways.{if_lt, lt_no}
+use Rattle.value.specs.declared.StrRef.{StrRef}
+use Rattle.value.specs.declared.TableRef.{TableRef}
 use Rattle.value.specs.declared.UpvalRef.{UpvalRef}
 use Rattle.value.specs.declared.Value.{Value}
 use Rattle.layout.specs.declared.Lay.{Lay}
@@ -32,12 +31,12 @@ module _ (l : Lay) {w u : List ℕ} (h : Agree w u 0 52) where
   pub root_links_same : root_links u l ≡ root_links w l
   unfolding root_links
   root_links_same =
-      ap (λ (t : TableOr). table_link t ++ table_link (registry u) ++ types u ++ string_link (mode_name u) ++ string_link (gc_name u)) (table_same h GLOBAL (omega arith) (omega arith))
-      ∙ ap (λ (t : TableOr). table_link (global w) ++ table_link t ++ types u ++ string_link (mode_name u) ++ string_link (gc_name u)) (table_same h REGISTRY (omega arith) (omega arith))
+      ap (λ (t : Option TableRef). table_link t ++ table_link (registry u) ++ types u ++ string_link (mode_name u) ++ string_link (gc_name u)) (table_same h GLOBAL (omega arith) (omega arith))
+      ∙ ap (λ (t : Option TableRef). table_link (global w) ++ table_link t ++ types u ++ string_link (mode_name u) ++ string_link (gc_name u)) (table_same h REGISTRY (omega arith) (omega arith))
       ∙ ap (λ (x : List Ref). table_link (global w) ++ table_link (registry w) ++ x ++ string_link (mode_name u) ++ string_link (gc_name u))
       (each_same (λ k. table_link (type_meta k u)) (λ k. table_link (type_meta k w)) 9 0 (λ k f g. ap table_link (table_same h (METATABLES + 2 * k) (omega arith) (omega (arith, g)))))
-      ∙ ap (λ (s : StrOr). table_link (global w) ++ table_link (registry w) ++ types w ++ string_link s ++ string_link (gc_name u)) (str_same h NAME_MODE (omega arith) (omega arith))
-      ∙ ap (λ (s : StrOr). table_link (global w) ++ table_link (registry w) ++ types w ++ string_link (mode_name w) ++ string_link s) (str_same h NAME_GC (omega arith) (omega arith))
+      ∙ ap (λ (s : Option StrRef). table_link (global w) ++ table_link (registry w) ++ types w ++ string_link s ++ string_link (gc_name u)) (str_same h NAME_MODE (omega arith) (omega arith))
+      ∙ ap (λ (s : Option StrRef). table_link (global w) ++ table_link (registry w) ++ types w ++ string_link (mode_name w) ++ string_link s) (str_same h NAME_GC (omega arith) (omega arith))
     where
       types : List ℕ → List Ref
       types x = each (λ k. table_link (type_meta k x)) 9 0

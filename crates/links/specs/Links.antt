@@ -1,19 +1,15 @@
 -- Document 01, 'Followed links', whole: for each kind the list of its links, for the roots theirs, in the order in which they
 -- are marked. The audit, demand 3 and the manual's definition all cite this page. `w` are the words of the heap, `b` its
 -- bytes. A link is a handle; one that names no occupied slot has no colour and leads nowhere. Assumes nothing.
-use Rattle.std.specs.Prelude.{Bool, cond, List, [], ◌∷◌, ◌++◌, ℕ, zero, suc, ◌+◌, ◌*◌}
+use Rattle.std.specs.Prelude.{cond, List, [], ◌∷◌, ◌++◌, ℕ, zero, suc, ◌+◌, Some, None, Option}
 use Rattle.base.specs.Ways.{if_lt, if_eq}
-use Rattle.value.specs.declared.UpvalRef.{UpvalRef}
-use Rattle.value.specs.declared.StrOr.{StrOr}
-use Rattle.value.specs.declared.StrOr.TheVariants.{Absent as NoStr, Present as SomeStr}
-use Rattle.value.specs.declared.TableOr.{TableOr}
-use Rattle.value.specs.declared.TableOr.TheVariants.{Absent, Present}
+use Rattle.value.specs.declared.StrRef.{StrRef}
+use Rattle.value.specs.declared.TableRef.{TableRef}
 use Rattle.value.specs.declared.Value.{Value}
 use Rattle.value.specs.declared.Value.TheVariants.{Nil, Boolean, Light, Number, Str, Table, Function, Userdata, Thread}
-use Rattle.value.specs.Values.{is_nil, value_at}
+use Rattle.value.specs.Values.{is_nil}
 use Rattle.layout.specs.declared.Lay.{Lay}
-use Rattle.layout.specs.Places.{ERROR, HOOK}
-use Rattle.record.specs.Fields.{body_at, upval_at}
+use Rattle.record.specs.Fields.{body_at}
 use Rattle.record.specs.Tables.{table_meta, array_size, node_count, array_value, node_key, node_value}
 use Rattle.record.specs.Userdata.{ud_meta, ud_env}
 use Rattle.run_record.specs.Closures.{is_rust, closure_env, closure_proto, closure_count, closure_upvalue, closure_value}
@@ -37,13 +33,13 @@ value_links (Function r) = fun r ∷ []
 value_links (Userdata r) = ud r ∷ []
 value_links (Thread r) = thread r ∷ []
 
-abbrev pub table_link : TableOr → List Ref
-table_link (Present r) = tab r ∷ []
-table_link Absent = []
+abbrev pub table_link : Option TableRef → List Ref
+table_link (Some r) = tab r ∷ []
+table_link None = []
 
-abbrev pub string_link : StrOr → List Ref
-string_link (SomeStr r) = str r ∷ []
-string_link NoStr = []
+abbrev pub string_link : Option StrRef → List Ref
+string_link (Some r) = str r ∷ []
+string_link None = []
 
 -- g i, g (i + 1), .., g (i + n - 1), joined
 unfoldable pub each : (ℕ → List Ref) → ℕ → ℕ → List Ref

@@ -1,11 +1,2 @@
-// The links that are followed stand in specs/Links.antt. A crate has a function, so here is one.
+// The links that are followed stand in specs/Links.antt.
 #![tactic(auto)]
-
-ghost use Rattle.std.specs.Prelude.{◌≡◌};
-
-// The number that it is given.
-pub fn same(x: u32) -> u32
-    ensures { result ≡ x }
-{
-    x
-}

@@ -6,7 +6,7 @@
 --     push_kept, pop_kept          no word outside the list's part, its count and the damage mark changes
 --     push_unmarked, push_marked   within the room a push leaves the damage mark; onto a full list it sets the mark, and does no more
 --     cleared_length, cleared_zero, cleared_kept     a cleared list has no item, and 0 where they were; no word outside changes
-use Rattle.std.specs.Prelude.{◌≡◌, refl, List as Words, [], ◌∷◌, ◌≢◌, length}
+use Rattle.std.specs.Prelude.{◌≡◌, refl, List as Words, [], ◌∷◌, ◌≢◌, length, Some, None, Option}
 use Rattle.std.proofs.Math.Path.{sym, ap}
 use Rattle.std.proofs.Common.{◌∙◌, inl}
 use Prim.Native.Nat.{ℕ, zero, suc, min, ◌+◌, ◌*◌, ◌-◌, ◌≤◌, ◌<◌}
@@ -22,8 +22,6 @@ use Rattle.value.specs.Laws.{Outside, away, outer, put3_long, put3_kept, put3_pa
 use Rattle.layout.specs.declared.List.{List}
 use Rattle.lists.specs.declared.Item.{Item}
 use Rattle.lists.specs.declared.Item.TheVariants.{Table, Function, Userdata, Thread, Main, Unknown}
-use Rattle.lists.specs.declared.Popped.{Popped}
-use Rattle.lists.specs.declared.Popped.TheVariants.{Nothing, Got}
 use Rattle.lists.specs.Lists.{damage, RoomFor, kind_of, index_of, generation_of, item_of, item_in, put_item, length_of, set_length, place, item_at, stored, push, taken, pop, cleared}
 use Rattle.lists.specs.Laws.{Apart}
 
@@ -168,11 +166,11 @@ module _ (l : List) (x : Item) (w : Words ℕ) where
 
 -- A pop goes one of two ways.
 module _ (l : List) (w : Words ℕ) where
-  pub pop_none : length_of l w ≡ 0 → pop l w ≡ (Nothing, w)
+  pub pop_none : length_of l w ≡ 0 → pop l w ≡ (None, w)
   unfolding pop
   pop_none h = sym (eq_yes _ _ _ _ _ h refl)
 
-  pub pop_some : length_of l w ≢ 0 → pop l w ≡ (Got (item_at l (length_of l w - 1) w), taken l (length_of l w - 1) w)
+  pub pop_some : length_of l w ≢ 0 → pop l w ≡ (Some (item_at l (length_of l w - 1) w), taken l (length_of l w - 1) w)
   unfolding pop
   pop_some h = sym (eq_no _ _ _ _ _ h refl)
 
@@ -181,9 +179,9 @@ module _ (l : List) (w : Words ℕ) where
     pop_length = go (ℕ_discrete (length_of l w) 0)
       where
         go : Dec (length_of l w ≡ 0) → length_of l (pop l w).1 ≡ length_of l w - 1
-        go (yes e) = ap (λ (r : Popped × Words ℕ). length_of l r.1) (pop_none e) ∙ omega (arith, e)
+        go (yes e) = ap (λ (r : Option Item × Words ℕ). length_of l r.1) (pop_none e) ∙ omega (arith, e)
         go (no d) =
-            ap (λ (r : Popped × Words ℕ). length_of l r.1) (pop_some d)
+            ap (λ (r : Option Item × Words ℕ). length_of l r.1) (pop_some d)
             ∙ ap (λ (k : ℕ). min k l.room) (taken_count l (length_of l w - 1) w ok (omega (arith, d)))
             ∙ omega (arith, d)
 
@@ -191,27 +189,27 @@ module _ (l : List) (w : Words ℕ) where
     pop_long = go (ℕ_discrete (length_of l w) 0)
       where
         go : Dec (length_of l w ≡ 0) → length (pop l w).1 ≡ length w
-        go (yes e) = ap (λ (r : Popped × Words ℕ). length r.1) (pop_none e)
+        go (yes e) = ap (λ (r : Option Item × Words ℕ). length r.1) (pop_none e)
         go (no d) =
-            ap (λ (r : Popped × Words ℕ). length r.1) (pop_some d)
+            ap (λ (r : Option Item × Words ℕ). length r.1) (pop_some d)
             ∙ taken_long l (length_of l w - 1) w ok (omega (arith, d))
 
     pub pop_kept : (q : ℕ) → q ≢ l.count → Outside l.base (3 * l.room) q → at (pop l w).1 q ≡ at w q
     pop_kept q m o = go (ℕ_discrete (length_of l w) 0)
       where
         go : Dec (length_of l w ≡ 0) → at (pop l w).1 q ≡ at w q
-        go (yes e) = ap (λ (r : Popped × Words ℕ). at r.1 q) (pop_none e)
+        go (yes e) = ap (λ (r : Option Item × Words ℕ). at r.1 q) (pop_none e)
         go (no d) =
-            ap (λ (r : Popped × Words ℕ). at r.1 q) (pop_some d)
+            ap (λ (r : Option Item × Words ℕ). at r.1 q) (pop_some d)
             ∙ taken_kept l (length_of l w - 1) w ok (omega (arith, d)) q m (outer l.base (3 * l.room) q o (place l (length_of l w - 1)) 3 (omega arith) (omega (arith, d)))
 
 -- Pop after push: the item, and the words before, with 0 where the item was.
 module _ (l : List) (x : Item) (w : Words ℕ) (ok : RoomFor l w) (h : length_of l w < l.room) where
-  pub pop_push : pop l (push l x w) ≡ (Got x, put3 (place l (length_of l w)) 0 0 0 w)
+  pub pop_push : pop l (push l x w) ≡ (Some x, put3 (place l (length_of l w)) 0 0 0 w)
   pop_push =
       ap (pop l) (push_stored l x w h)
       ∙ pop_some l s (λ e. omega (arith, long))
-      ∙ ap (λ (k : ℕ). (Got (item_at l k s), taken l k s)) last
+      ∙ ap (λ (k : ℕ). (Some (item_at l k s), taken l k s)) last
       ∙ rw (same, taken_stored l (length_of l w) w ok h x (omega arith))
     where
       s : Words ℕ
@@ -227,8 +225,8 @@ module _ (l : List) (x : Item) (w : Words ℕ) (ok : RoomFor l w) (h : length_of
       same = item_found l (length_of l w) s (omega (arith, long)) ∙ stored_item l (length_of l w) w ok h x
 
   -- where the words past the end are 0, as every pop leaves them, these are the words before
-  pub pop_push_back : at w (place l (length_of l w)) ≡ 0 → at w (place l (length_of l w) + 1) ≡ 0 → at w (place l (length_of l w) + 2) ≡ 0 → pop l (push l x w) ≡ (Got x, w)
-  pop_push_back f g t = pop_push ∙ ap (λ (u : Words ℕ). (Got x, u)) (put3_same (place l (length_of l w)) 0 0 0 w f g t)
+  pub pop_push_back : at w (place l (length_of l w)) ≡ 0 → at w (place l (length_of l w) + 1) ≡ 0 → at w (place l (length_of l w) + 2) ≡ 0 → pop l (push l x w) ≡ (Some x, w)
+  pop_push_back f g t = pop_push ∙ ap (λ (u : Words ℕ). (Some x, u)) (put3_same (place l (length_of l w)) 0 0 0 w f g t)
 
 -- Clearing: no word outside changes, and the words stay as many.
 clear_kept : (p n : ℕ) (w : Words ℕ) (q : ℕ) → Outside p n q → at (clear p n w) q ≡ at w q

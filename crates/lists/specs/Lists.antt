@@ -1,6 +1,6 @@
 -- Document 01, 'Sizes' and the damage rule: a working list is a count and items of three words: kind, index, generation.
 -- A `List` says where they lie, so this holds of each of the four. Assumes nothing.
-use Rattle.std.specs.Prelude.{List as Words, ℕ, min, ◌+◌, ◌*◌, ◌-◌, ◌≤◌, ◌<◌, length}
+use Rattle.std.specs.Prelude.{List as Words, ℕ, min, ◌+◌, ◌*◌, ◌-◌, ◌≤◌, ◌<◌, length, Some, None, Option}
 use Rattle.base.specs.Ways.{if_lt, if_le, if_eq}
 use Rattle.base.specs.Words.{at, put, clear}
 use Rattle.value.specs.Values.{put3}
@@ -8,8 +8,6 @@ use Rattle.layout.specs.declared.List.{List}
 use Rattle.layout.specs.Places.{DAMAGE}
 use Rattle.lists.specs.declared.Item.{Item}
 use Rattle.lists.specs.declared.Item.TheVariants.{Table, Function, Userdata, Thread, Main, Unknown}
-use Rattle.lists.specs.declared.Popped.{Popped}
-use Rattle.lists.specs.declared.Popped.TheVariants.{Nothing, Got}
 
 -- the place of the damage mark
 abbrev pub damage : ℕ
@@ -90,10 +88,10 @@ push l x w = if_lt (length_of l w) l.room (stored l (length_of l w) x w) (put da
 unfoldable pub taken : List → ℕ → Words ℕ → Words ℕ
 taken l n w = set_length l n (put3 (place l n) 0 0 0 w)
 
-unfoldable pub pop : List → Words ℕ → Popped × Words ℕ
+unfoldable pub pop : List → Words ℕ → Option Item × Words ℕ
 pop l w =
-    if_eq (length_of l w) 0 (Nothing, w)
-    (Got (item_at l (length_of l w - 1) w), taken l (length_of l w - 1) w)
+    if_eq (length_of l w) 0 (None, w)
+    (Some (item_at l (length_of l w - 1) w), taken l (length_of l w - 1) w)
 
 -- An emptied list has the count 0, and the words of its items are 0.
 unfoldable pub cleared : List → Words ℕ → Words ℕ

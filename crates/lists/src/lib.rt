@@ -22,13 +22,6 @@ pub enum Item {
     Unknown,
 }
 
-// What a list hands out.
-#[derive(Clone, Copy)]
-pub enum Popped {
-    Nothing,
-    Got(Item),
-}
-
 // The kind of an item: the tag of its value, and 9 for the main thread.
 pub fn kind_of(x: Item) -> u32
     ensures { result ≡ kind_of x }
@@ -43,30 +36,29 @@ pub fn kind_of(x: Item) -> u32
     }
 }
 
+// The index and the generation of an item, 0 and 0 where it has none.
+fn handle_of(x: Item) -> (u32, u32)
+    ensures { (result.0 ≡ index_of x) × (result.1 ≡ generation_of x) }
+{
+    match x {
+        Item::Table(r) => (r.0, r.1),
+        Item::Function(r) => (r.0, r.1),
+        Item::Userdata(r) => (r.0, r.1),
+        Item::Thread(r) => (r.0, r.1),
+        Item::Main | Item::Unknown => (0, 0),
+    }
+}
+
 pub fn index_of(x: Item) -> u32
     ensures { result ≡ index_of x }
 {
-    match x {
-        Item::Table(r) => r.0,
-        Item::Function(r) => r.0,
-        Item::Userdata(r) => r.0,
-        Item::Thread(r) => r.0,
-        Item::Main => 0,
-        Item::Unknown => 0,
-    }
+    handle_of(x).0
 }
 
 pub fn generation_of(x: Item) -> u32
     ensures { result ≡ generation_of x }
 {
-    match x {
-        Item::Table(r) => r.1,
-        Item::Function(r) => r.1,
-        Item::Userdata(r) => r.1,
-        Item::Thread(r) => r.1,
-        Item::Main => 0,
-        Item::Unknown => 0,
-    }
+    handle_of(x).1
 }
 
 // The item of three words. Any other kind is Unknown.
@@ -102,13 +94,7 @@ pub fn length_of(w: &[u32], l: List) -> usize
     requires { RoomFor l w.now }
     ensures { (result ≡ length_of l w.now) × (result ≤ l.room) }
 {
-    let p = l.count;
-    let n = base::wide(base::get(w, p));
-    let most = l.room;
-    if n < most {
-        return n;
-    }
-    most
+    base::wide(base::get(w, l.count)).min(l.room)
 }
 
 fn set_length(w: &mut [u32], l: List, n: usize)
@@ -126,10 +112,10 @@ pub fn item_at(w: &[u32], l: List, i: usize) -> Item
     ensures { result ≡ item_at l i w.now }
 {
     if length_of(w, l) <= i {
-        return Item::Unknown;
+        Item::Unknown
+    } else {
+        read_item(w, l.base + 3 * i)
     }
-    let p = l.base + 3 * i;
-    read_item(w, p)
 }
 
 fn store(w: &mut [u32], l: List, n: usize, x: Item)
@@ -160,9 +146,9 @@ pub fn push(w: &mut [u32], l: List, x: Item)
     let n = length_of(w, l);
     if n < l.room {
         store(w, l, n, x);
-        return;
+    } else {
+        base::put(w, layout::DAMAGE, 1);
     }
-    base::put(w, layout::DAMAGE, 1);
 }
 
 // Item n is taken out, and the list ends there.
@@ -177,17 +163,17 @@ fn take_out(w: &mut [u32], l: List, n: usize)
 }
 
 // The last item is taken out.
-pub fn pop(w: &mut [u32], l: List) -> Popped
+pub fn pop(w: &mut [u32], l: List) -> Option<Item>
     requires { RoomFor l w.old }
     ensures { (result, w.new) ≡ pop l w.old }
 {
     let n = length_of(w, l);
     if n == 0 {
-        return Popped::Nothing;
+        return None;
     }
     let x = item_at(w, l, n - 1);
     take_out(w, l, n - 1);
-    Popped::Got(x)
+    Some(x)
 }
 
 // The list is empty, and its words are 0.

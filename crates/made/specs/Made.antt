@@ -2,17 +2,15 @@
 -- any arguments. A call that refuses is one of them: it changes nothing, or as its definition says. A call that only reads changes
 -- nothing, so it has no line here. Numbers are of any size; those of the code have 32 or 64 bits. Assumes nothing: these are
 -- definitions.
-use Rattle.std.specs.Prelude.{◌≡◌, Bool, List, ℕ, ℤ}
+use Rattle.std.specs.Prelude.{◌≡◌, Bool, List, ℕ, ℤ, Ok, Option}
 use Rattle.base.specs.Heap.{Heap}
 use Rattle.value.specs.declared.TableRef.{TableRef}
 use Rattle.value.specs.declared.UpvalRef.{UpvalRef}
 use Rattle.value.specs.declared.UdRef.{UdRef}
 use Rattle.value.specs.declared.ThreadRef.{ThreadRef}
-use Rattle.value.specs.declared.TableOr.{TableOr}
 use Rattle.value.specs.declared.Value.{Value}
 use Rattle.layout.specs.declared.Sizes.{Sizes}
 use Rattle.newheap.specs.New.{make_heap}
-use Rattle.newheap.specs.declared.Made.TheVariants.{Done}
 use Rattle.make_strings.specs.Making.{make_string}
 use Rattle.make_tables.specs.Making.{make_table, make_userdata}
 use Rattle.make_protos.specs.Making.{make_proto}
@@ -41,7 +39,7 @@ pub data Call : Type 0 where
   Call-make_table : ℕ → ℕ → Call
   Call-make_proto : List ℕ → List ℕ → Call
   Call-make_lua_closure : ℕ → TableRef → List ℕ → Call
-  Call-make_rust_closure : TableOr → List ℕ → Call
+  Call-make_rust_closure : Option TableRef → List ℕ → Call
   Call-make_open_upvalue : Call
   Call-make_closed_upvalue : Value → Call
   Call-make_userdata : Call
@@ -49,11 +47,11 @@ pub data Call : Type 0 where
   -- Storing in a table, an upvalue, a userdata.
   Call-table_set : TableRef → ℕ → Value → Call
   Call-table_set_node : TableRef → ℕ → Value → Value → Call
-  Call-table_set_meta : TableRef → TableOr → Call
+  Call-table_set_meta : TableRef → Option TableRef → Call
   Call-upvalue_close : UpvalRef → Value → Call
   Call-upvalue_set : UpvalRef → Value → Call
-  Call-ud_set_meta : UdRef → TableOr → Call
-  Call-ud_set_env : UdRef → TableOr → Call
+  Call-ud_set_meta : UdRef → Option TableRef → Call
+  Call-ud_set_env : UdRef → Option TableRef → Call
   -- Changing a thread.
   Call-thread_push : ThreadRef → Value → Call
   Call-thread_pop : ThreadRef → Call
@@ -77,7 +75,7 @@ pub data Call : Type 0 where
   Call-set_ci : ℕ → Call
   Call-set_error : Value → Call
   Call-set_hook : Value → Call
-  Call-set_type_meta : ℕ → TableOr → Call
+  Call-set_type_meta : ℕ → Option TableRef → Call
   -- Collecting.
   Call-gc_singlestep : Call
   Call-gc_step : ℤ → Call
@@ -142,5 +140,5 @@ called (Call-set_limit n) h = (set_limit n h).1
 
 -- A heap that the calls make: `make_heap` made it of any buffers, by sizes that it does not refuse; or a call was made on one.
 pub data Made : Heap → Type 0 where
-  new : (s : Sizes) (before : Heap) {h : Heap} → (make_heap s before).0 ≡ Done → h ≡ (make_heap s before).1 → Made h
+  new : (s : Sizes) (before : Heap) {h : Heap} → (make_heap s before).0 ≡ Ok tt → h ≡ (make_heap s before).1 → Made h
   after : {g h : Heap} → Made g → (c : Call) → h ≡ called c g → Made h

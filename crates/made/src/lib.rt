@@ -1,11 +1,2 @@
-// The heaps that the calls make: the definitions stand in specs/. A crate has a function, so here is one.
+// The heaps that the calls make: the definitions stand in specs/.
 #![tactic(auto)]
-
-ghost use Rattle.std.specs.Prelude.{◌≡◌};
-
-// The number that it is given.
-pub fn same(x: u32) -> u32
-    ensures { result ≡ x }
-{
-    x
-}

@@ -3,7 +3,7 @@
 --     made_opened       test 1 gives the layout of the sizes in the header
 --     made_call, made_marked, made_ask     so a call is its work
 --     made_total        the total is the sum of the occupied slots times their sizes
-use Rattle.std.specs.Prelude.{◌≡◌, Bool, true, false, cond, ◌&&◌, List, [], ◌∷◌, ℕ, ◌+◌, ◌*◌, ◌≤◌, eqb, length}
+use Rattle.std.specs.Prelude.{◌≡◌, Bool, true, false, cond, ◌&&◌, List, [], ◌∷◌, ℕ, ◌+◌, ◌*◌, ◌≤◌, eqb, length, Ok, Err, Result}
 use Rattle.std.proofs.Math.Path.{refl, subst}
 use Rattle.std.proofs.Common.{sym, ap, ◌∙◌, true≢false, ⊎_elim, arith, le-leb, eq-eqb}
 use Rattle.std.proofs.Math.Decide.{ℕ_discrete}
@@ -11,12 +11,12 @@ use Rattle.std.proofs.Math.Dec.{leb}
 use Rattle.base.specs.Ways.{eq_yes}
 use Rattle.base.specs.Words.{at}
 use Rattle.base.specs.Heap.{Heap}
+use Rattle.base.specs.declared.Refusal.TheVariants.{Unfit, Damaged}
+use Rattle.base.specs.declared.Refusal.{Refusal}
 use Rattle.arena.specs.Slots.{fresh, count, occupied}
 use Rattle.arena_laws.specs.Keeps.{occupied_most}
 use Rattle.layout.specs.declared.Sizes.{Sizes}
 use Rattle.layout.specs.declared.Lay.{Lay}
-use Rattle.layout.specs.declared.Opened.{Opened}
-use Rattle.layout.specs.declared.Opened.TheVariants.{Fits, Refused}
 use Rattle.layout.specs.Table.{Row, every, all, Hold}
 use Rattle.layout.specs.Sizes.{size_rows, sizes_fit, SizesOk}
 use Rattle.layout.specs.Layout.{lay_of}
@@ -121,34 +121,34 @@ module _ (s : Sizes) (f : SizesOk s) (h : Heap) (t : State (lay_of s) h) where
       (le-leb (lay_of s).bytes (length h.bytes) t.wide))
 
 -- Test 1 gives the layout: neither 1 nor 8.
-pub made_opened : (h : Heap) → Made h → opened h.words (length h.bytes) ≡ Fits (sizes_at h.words)
+pub made_opened : (h : Heap) → Made h → opened h.words (length h.bytes) ≡ Ok (sizes_at h.words)
 unfolding opened
 made_opened h m = go (accepted h.words (length h.bytes)) (eqb (at h.words DAMAGE) 0) (accepts (sizes_at h.words) s.fits h s.state refl) (eq-eqb (at h.words DAMAGE) 0 s.state.whole)
   where
     s : Sound h
     s = made_sound m
 
-    go : (a d : Bool) → a ≡ true → d ≡ true → ◌≡◌ {A = Opened} (cond a (cond d (Fits (sizes_at h.words)) (Refused 8)) (Refused 1)) (Fits (sizes_at h.words))
+    go : (a d : Bool) → a ≡ true → d ≡ true → ◌≡◌ {A = Result Sizes Refusal} (cond a (cond d (Ok (sizes_at h.words)) (Err Damaged)) (Err Unfit)) (Ok (sizes_at h.words))
     go true true e f = refl
     go true false e f = absurd (true≢false (sym f))
     go false d e f = absurd (true≢false (sym e))
 
 -- So a call is its work with that layout,
-pub made_call : {A : Type 0} (refuse : ℕ → A) (f : Lay → Heap → A × Heap) (h : Heap) → Made h → call refuse f h ≡ f (lay_at h) h
+pub made_call : {A : Type 0} (refuse : Refusal → A) (f : Lay → Heap → A × Heap) (h : Heap) → Made h → call refuse f h ≡ f (lay_at h) h
 unfolding call
 made_call refuse f h m = ap (on_opened refuse f h) (made_opened h m)
 
 -- one whose work can set the damage mark too, where the heap after it is sound,
-pub made_marked : {A : Type 0} (refuse : ℕ → A) (f : Lay → Heap → A × Heap) (h : Heap) → Made h → Sound (call_marked refuse f h).1 → call_marked refuse f h ≡ f (lay_at h) h
+pub made_marked : {A : Type 0} (refuse : Refusal → A) (f : Lay → Heap → A × Heap) (h : Heap) → Made h → Sound (call_marked refuse f h).1 → call_marked refuse f h ≡ f (lay_at h) h
 unfolding call_marked
 made_marked {A} refuse f h m s =
-    e ∙ ap (λ (x : A). (x, (f (lay_at h) h).1)) (sym (eq_yes (at (f (lay_at h) h).1.words DAMAGE) 0 (f (lay_at h) h).0 (refuse 8) _ (ap (λ (x : A × Heap). at x.1.words DAMAGE) (sym e) ∙ s.state.whole) refl))
+    e ∙ ap (λ (x : A). (x, (f (lay_at h) h).1)) (sym (eq_yes (at (f (lay_at h) h).1.words DAMAGE) 0 (f (lay_at h) h).0 (refuse Damaged) _ (ap (λ (x : A × Heap). at x.1.words DAMAGE) (sym e) ∙ s.state.whole) refl))
   where
-    e : call_marked refuse f h ≡ on_marked refuse f h (Fits (sizes_at h.words))
+    e : call_marked refuse f h ≡ on_marked refuse f h (Ok (sizes_at h.words))
     e = ap (on_marked refuse f h) (made_opened h m)
 
 -- and one that only reads.
-pub made_ask : {A : Type 0} (refuse : ℕ → A) (f : Lay → Heap → A) (h : Heap) → Made h → ask refuse f h ≡ f (lay_at h) h
+pub made_ask : {A : Type 0} (refuse : Refusal → A) (f : Lay → Heap → A) (h : Heap) → Made h → ask refuse f h ≡ f (lay_at h) h
 unfolding ask
 made_ask refuse f h m = ap (on_asked refuse f h) (made_opened h m)
 

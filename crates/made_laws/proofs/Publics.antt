@@ -3,7 +3,7 @@
 --     step_is           on such a heap before Finalize each is the step that the laws of the sweep speak of
 --     made_steps        what is freed, painted and left when the sweep has ended
 --     made_ends         and it ends: by some number of single steps
-use Rattle.std.specs.Prelude.{◌≡◌, Bool, false, cond, ◌⊎◌, ◌≢◌, List, [], ◌∷◌, ltb, ℤ, length}
+use Rattle.std.specs.Prelude.{◌≡◌, Bool, false, cond, ◌⊎◌, ◌≢◌, List, [], ◌∷◌, ltb, ℤ, length, Ok, Err, Result}
 use Rattle.std.proofs.Math.Path.{refl, ap}
 use Rattle.std.proofs.Common.{sym, subst, ◌∙◌, inl, inr, ⊎_elim, arith, get_or-set_other}
 use Prim.Native.Nat.{ℕ, zero, suc, ◌+◌, ◌≤◌, ◌<◌}
@@ -11,13 +11,14 @@ use Rattle.std.proofs.Math.Decide.{ℕ_discrete}
 use Rattle.base.specs.Ways.{if_eq, eq_yes, eq_no}
 use Rattle.base.specs.Words.{at, put}
 use Rattle.base.specs.Heap.{Heap, heap}
+use Rattle.base.specs.declared.Refusal.{Refusal}
 use Rattle.layout.specs.declared.Lay.{Lay}
 use Rattle.layout.specs.declared.Sizes.{Sizes}
 use Rattle.layout.specs.Layout.{lay_of}
 use Rattle.layout.specs.Places.{PHASE, STEPMUL, DEBT, INTERRUPTED}
 use Rattle.test1.specs.Test1.{sizes_at}
 use Rattle.accounts.specs.declared.Answer.{Answer}
-use Rattle.accounts.specs.declared.Answer.TheVariants.{Busy, Refused}
+use Rattle.accounts.specs.declared.Answer.TheVariants.{Busy}
 use Rattle.accounts.specs.Accounts.{grown}
 use Rattle.pacing.specs.Pacing.{budget_of, automatic_budget}
 use Rattle.step.specs.declared.Single.{Single}
@@ -95,21 +96,21 @@ module _ (h : Heap) (m : Made h) (d : at h.words PHASE ≢ 4) where
   single_is : (gc_singlestep h).1 ≡ (single_step (lay_at h) h).1
   unfolding gc_singlestep single_in
   single_is =
-      ap (λ (x : Answer × Heap). x.1) (made_marked Refused single_in h m (called_sound Call-gc_singlestep h s))
-      ∙ ap (λ (b : Bool). (cond {A = Answer × Heap} b (Busy, h) (stepped (single_step (lay_at h) h))).1) (not_out h.words none)
+      ap (λ (x : Result Answer Refusal × Heap). x.1) (made_marked Err single_in h m (called_sound Call-gc_singlestep h s))
+      ∙ ap (λ (b : Bool). (cond {A = Result Answer Refusal × Heap} b (Ok Busy, h) (stepped (single_step (lay_at h) h))).1) (not_out h.words none)
       ∙ costly_stepped (single_step (lay_at h) h) (step_costs (lay_at h) h s.state d)
 
   budget_is : (n : ℤ) → (gc_step n h).1 ≡ (budgeted (lay_at h) 2 (budget_of n) h).1
   unfolding gc_step budget_in
   budget_is n =
-      ap (λ (x : Answer × Heap). x.1) (made_marked Refused (budget_in (budget_of n)) h m (called_sound (Call-gc_step n) h s))
-      ∙ ap (λ (b : Bool). (cond {A = Answer × Heap} b (Busy, h) (budgeted (lay_at h) 2 (budget_of n) h)).1) (not_out h.words none)
+      ap (λ (x : Result Answer Refusal × Heap). x.1) (made_marked Err (budget_in (budget_of n)) h m (called_sound (Call-gc_step n) h s))
+      ∙ ap (λ (b : Bool). (cond {A = Result Answer Refusal × Heap} b (Ok Busy, h) (budgeted (lay_at h) 2 (budget_of n) h)).1) (not_out h.words none)
 
   auto_is : (gc_step_auto h).1 ≡ (automatic (lay_at h) 2 h).1
   unfolding gc_step_auto auto_in budget_in automatic
   auto_is =
-      ap (λ (x : Answer × Heap). x.1) (made_marked Refused auto_in h m (called_sound Call-gc_step_auto h s))
-      ∙ ap (λ (b : Bool). (cond {A = Answer × Heap} b (Busy, g) (budgeted (lay_at h) 2 (automatic_budget (at (grown h.words) STEPMUL)) g)).1) (not_out (grown h.words) same)
+      ap (λ (x : Result Answer Refusal × Heap). x.1) (made_marked Err auto_in h m (called_sound Call-gc_step_auto h s))
+      ∙ ap (λ (b : Bool). (cond {A = Result Answer Refusal × Heap} b (Ok Busy, g) (budgeted (lay_at h) 2 (automatic_budget (at (grown h.words) STEPMUL)) g)).1) (not_out (grown h.words) same)
     where
       g : Heap
       g = heap (grown h.words) h.bytes

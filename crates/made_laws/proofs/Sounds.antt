@@ -2,17 +2,16 @@
 --     new_sound         a heap that `make_heap` made
 --     called_sound      each call keeps it
 --     made_sound        so every heap that the calls make
-use Rattle.std.specs.Prelude.{◌≡◌, refl, Bool, true, false, cond, ℕ, length}
+use Rattle.std.specs.Prelude.{◌≡◌, refl, Bool, true, false, cond, length, Ok, Err, Result}
 use Rattle.std.proofs.Common.{sym, subst, ap, ◌∙◌, true≢false}
 use Rattle.base.specs.Heap.{Heap}
+use Rattle.base.specs.declared.Refusal.TheVariants.{Unfit, OutOfRange}
+use Rattle.base.specs.declared.Refusal.{Refusal}
 use Rattle.layout.specs.declared.Sizes.{Sizes}
 use Rattle.layout.specs.declared.Lay.{Lay}
-use Rattle.layout.specs.declared.Opened.TheVariants.{Fits, Refused}
 use Rattle.layout.specs.Sizes.{SizesOk, sizes_fit, sizes_fit_ok}
 use Rattle.layout.specs.Layout.{lay_of, planned}
 use Rattle.test1.specs.Test1.{sizes_at}
-use Rattle.newheap.specs.declared.Made.TheVariants as making
-use Rattle.newheap.specs.declared.Made as make
 use Rattle.newheap.specs.New.{new_heap, made_in, make_heap}
 use Rattle.made.specs.Made.{Call, Call-make_string, Call-make_table, Call-make_proto, Call-make_lua_closure, Call-make_rust_closure, Call-make_open_upvalue, Call-make_closed_upvalue, Call-make_userdata, Call-make_thread, Call-table_set, Call-table_set_node, Call-table_set_meta, Call-upvalue_close, Call-upvalue_set, Call-ud_set_meta, Call-ud_set_env, Call-thread_push, Call-thread_pop, Call-thread_set, Call-thread_set_top, Call-thread_open_push, Call-thread_open_cut, Call-thread_suspended_push, Call-thread_suspended_cut, Call-thread_set_global, Call-thread_set_error, Call-thread_set_hook, Call-push_value, Call-pop_value, Call-stack_set, Call-set_top, Call-open_push, Call-open_cut, Call-set_frame, Call-set_ci, Call-set_error, Call-set_hook, Call-set_type_meta, Call-gc_singlestep, Call-gc_step, Call-gc_step_auto, Call-full_gc, Call-gc_check, Call-finish_with, Call-set_pause, Call-set_stepmul, Call-set_limit, called, Made, new, after}
 use Rattle.mark_laws.specs.Apart.{Apart, apart}
@@ -57,25 +56,25 @@ sound_of s h f t =
     record { fits = subst SizesOk e f; state = subst (λ (x : Sizes). State (lay_of x) h) e t }
 
 -- A heap that `make_heap` made.
-new_sound : (s : Sizes) (h : Heap) → (make_heap s h).0 ≡ making.Done → Sound (make_heap s h).1
+new_sound : (s : Sizes) (h : Heap) → (make_heap s h).0 ≡ Ok tt → Sound (make_heap s h).1
 unfolding make_heap planned
 new_sound s h e = go (sizes_fit s) refl e
   where
-    P : make.Made × Heap → Type 0
-    P x = x.0 ≡ making.Done → Sound x.1
+    P : Result Unit Refusal × Heap → Type 0
+    P x = x.0 ≡ Ok tt → Sound x.1
 
-    done : make.Made → Bool
-    done making.Done = true
-    done (making.Refused n) = false
+    done : Result Unit Refusal → Bool
+    done (Ok tt) = true
+    done (Err n) = false
 
-    refused : (n : ℕ) (g : Heap) → P (making.Refused n, g)
+    refused : (n : Refusal) (g : Heap) → P (Err n, g)
     refused n g z = absurd (true≢false (sym (ap done z)))
 
-    go : (b : Bool) → sizes_fit s ≡ b → P (made_in h (cond b (Fits s) (Refused 4)))
-    go false f = refused 4 h
+    go : (b : Bool) → sizes_fit s ≡ b → P (made_in h (cond b (Ok s) (Err OutOfRange)))
+    go false f = refused OutOfRange h
     go true f =
-        lt_both P (length h.words) (lay_of s).words (making.Refused 1, h) _ (λ z. refused 1 h)
-        (λ long. lt_both P (length h.bytes) (lay_of s).bytes (making.Refused 1, h) (making.Done, new_heap (lay_of s) h) (λ z. refused 1 h)
+        lt_both P (length h.words) (lay_of s).words (Err Unfit, h) _ (λ z. refused Unfit h)
+        (λ long. lt_both P (length h.bytes) (lay_of s).bytes (Err Unfit, h) (Ok tt, new_heap (lay_of s) h) (λ z. refused Unfit h)
         (λ wide z. sound_of s (new_heap (lay_of s) h) (sizes_fit_ok s f) (new_state s (sizes_fit_ok s f) h.words h.bytes long wide)))
 
 -- Each call keeps the state.

@@ -1,11 +1,2 @@
-// What holds of every heap that the calls make, and demand 3 for it: all of it stands in specs/. A crate has a function, so here is one.
+// What holds of every heap that the calls make, and demand 3 for it: all of it stands in specs/.
 #![tactic(auto)]
-
-ghost use Rattle.std.specs.Prelude.{◌≡◌};
-
-// The number that it is given.
-pub fn same(x: u32) -> u32
-    ensures { result ≡ x }
-{
-    x
-}

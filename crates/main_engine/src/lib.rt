@@ -2,10 +2,9 @@
 // is a code, 0 or the number of a refusal, and words lent for the rest: a popped value's three, a setting's two, the value before.
 #![tactic(auto)]
 
-ghost use Rattle.std.specs.Prelude.{◌≡◌, ◌≤◌, length};
+ghost use Rattle.std.specs.Prelude.{◌≡◌, ◌≤◌, length, Err};
 ghost use Rattle.base.specs.Heap.{heap};
 ghost use Rattle.value.specs.Values.{value_of};
-ghost use Rattle.given.specs.declared.Served.TheVariants.{Refused};
 ghost use Rattle.stack_calls.specs.StackCalls.{push, pop, stack_set, set_top};
 ghost use Rattle.main_calls.specs.MainCalls.{open_push, open_cut, set_error, set_hook};
 ghost use Rattle.frame_calls.specs.FrameCalls.{set_frame, set_ci};
@@ -14,26 +13,26 @@ ghost use Rattle.told.specs.Numbers.{upval_ref, tagged};
 ghost use Rattle.told.specs.Answers.{served, got_told, lent};
 ghost use Rattle.main_engine.specs.Exports.{setting_told};
 
-use settings::Setting;
+use base::Refusal;
 
 // The code of a setting, with the value before in words 0 and 1.
-fn tell_setting(out: &mut [u32], a: Setting) -> u32
+fn tell_setting(out: &mut [u32], a: Result<u64, Refusal>) -> u32
     requires { 2 ≤ length out.old }
     ensures { (result, out.new) ≡ setting_told a out.old }
 {
     match a {
-        Setting::Was(n) => {
+        Ok(n) => {
             base::put64(out, 0, n);
             0
         }
-        Setting::Refused(k) => k,
+        Err(k) => k.number(),
     }
 }
 
 // A value on top of the stack.
 #[unsafe(no_mangle)]
 pub extern "C" fn sieddesan_push(w: &mut [u32], b: &[u8], tag: u32, low: u32, high: u32) -> u32
-    ensures { (result, heap w.new b.now) ≡ served (tagged Refused tag (push (value_of tag low high))) (heap w.old b.now) }
+    ensures { (result, heap w.new b.now) ≡ served (tagged Err tag (push (value_of tag low high))) (heap w.old b.now) }
 {
     if 8 < tag {
         return told::no_number(w, b);
@@ -64,7 +63,7 @@ pub extern "C" fn sieddesan_stack_set(
     low: u32,
     high: u32,
 ) -> u32
-    ensures { (result, heap w.new b.now) ≡ served (tagged Refused tag (stack_set i (value_of tag low high))) (heap w.old b.now) }
+    ensures { (result, heap w.new b.now) ≡ served (tagged Err tag (stack_set i (value_of tag low high))) (heap w.old b.now) }
 {
     if 8 < tag {
         return told::no_number(w, b);
@@ -121,7 +120,7 @@ pub extern "C" fn sieddesan_set_ci(w: &mut [u32], b: &[u8], i: u32) -> u32
 // The error value.
 #[unsafe(no_mangle)]
 pub extern "C" fn sieddesan_set_error(w: &mut [u32], b: &[u8], tag: u32, low: u32, high: u32) -> u32
-    ensures { (result, heap w.new b.now) ≡ served (tagged Refused tag (set_error (value_of tag low high))) (heap w.old b.now) }
+    ensures { (result, heap w.new b.now) ≡ served (tagged Err tag (set_error (value_of tag low high))) (heap w.old b.now) }
 {
     if 8 < tag {
         return told::no_number(w, b);
@@ -133,7 +132,7 @@ pub extern "C" fn sieddesan_set_error(w: &mut [u32], b: &[u8], tag: u32, low: u3
 // The hook function.
 #[unsafe(no_mangle)]
 pub extern "C" fn sieddesan_set_hook(w: &mut [u32], b: &[u8], tag: u32, low: u32, high: u32) -> u32
-    ensures { (result, heap w.new b.now) ≡ served (tagged Refused tag (set_hook (value_of tag low high))) (heap w.old b.now) }
+    ensures { (result, heap w.new b.now) ≡ served (tagged Err tag (set_hook (value_of tag low high))) (heap w.old b.now) }
 {
     if 8 < tag {
         return told::no_number(w, b);

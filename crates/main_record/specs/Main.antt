@@ -1,11 +1,11 @@
 -- The main record and the other roots: fields of the header at the places of layout's specs/Places, and three parts past the
 -- boundary: the main stack, 3 words for each value; the main open list, 2 words for each upvalue's handle; the frames, a word
 -- for each, its function index. Assumes nothing.
-use Rattle.std.specs.Prelude.{List, ℕ, ◌+◌, ◌*◌, ◌-◌, min}
+use Rattle.std.specs.Prelude.{List, ℕ, ◌+◌, ◌*◌, ◌-◌, min, Option}
 use Rattle.base.specs.Words.{at, put}
+use Rattle.value.specs.declared.StrRef.{StrRef}
+use Rattle.value.specs.declared.TableRef.{TableRef}
 use Rattle.value.specs.declared.Value.{Value}
-use Rattle.value.specs.declared.TableOr.{TableOr}
-use Rattle.value.specs.declared.StrOr.{StrOr}
 use Rattle.value.specs.declared.UpvalRef.{UpvalRef}
 use Rattle.value.specs.Values.{value_at, put_value}
 use Rattle.value.specs.Handles.{table_or_at, put_table_or, str_or_at, put_str_or}
@@ -46,34 +46,34 @@ abbrev pub set_main_hook : Value → List ℕ → List ℕ
 set_main_hook v w = put_value HOOK v w
 
 -- global, registry, the names `__mode` and `__gc`, the nine type metatables
-abbrev pub global : List ℕ → TableOr
+abbrev pub global : List ℕ → Option TableRef
 global w = table_or_at w GLOBAL
 
-abbrev pub set_global : TableOr → List ℕ → List ℕ
+abbrev pub set_global : Option TableRef → List ℕ → List ℕ
 set_global t w = put_table_or GLOBAL t w
 
-abbrev pub registry : List ℕ → TableOr
+abbrev pub registry : List ℕ → Option TableRef
 registry w = table_or_at w REGISTRY
 
-abbrev pub set_registry : TableOr → List ℕ → List ℕ
+abbrev pub set_registry : Option TableRef → List ℕ → List ℕ
 set_registry t w = put_table_or REGISTRY t w
 
-abbrev pub mode_name : List ℕ → StrOr
+abbrev pub mode_name : List ℕ → Option StrRef
 mode_name w = str_or_at w NAME_MODE
 
-abbrev pub set_mode_name : StrOr → List ℕ → List ℕ
+abbrev pub set_mode_name : Option StrRef → List ℕ → List ℕ
 set_mode_name s w = put_str_or NAME_MODE s w
 
-abbrev pub gc_name : List ℕ → StrOr
+abbrev pub gc_name : List ℕ → Option StrRef
 gc_name w = str_or_at w NAME_GC
 
-abbrev pub set_gc_name : StrOr → List ℕ → List ℕ
+abbrev pub set_gc_name : Option StrRef → List ℕ → List ℕ
 set_gc_name s w = put_str_or NAME_GC s w
 
-abbrev pub type_meta : ℕ → List ℕ → TableOr
+abbrev pub type_meta : ℕ → List ℕ → Option TableRef
 type_meta k w = table_or_at w (METATABLES + 2 * k)
 
-abbrev pub set_type_meta : ℕ → TableOr → List ℕ → List ℕ
+abbrev pub set_type_meta : ℕ → Option TableRef → List ℕ → List ℕ
 set_type_meta k t w = put_table_or (METATABLES + 2 * k) t w
 
 -- stack, open list, frames

@@ -4,7 +4,7 @@ use Rattle.std.specs.Prelude.{ℕ, ◌+◌, ◌*◌, ◌≤◌}
 use Rattle.std.proofs.Common.{arith}
 use Rattle.layout.specs.declared.Lay.{Lay}
 use Rattle.layout.specs.Sizes.{SizesOk}
-use Rattle.layout.specs.Fits.{Ok, sizes_in, sizes_in_lem}
+use Rattle.layout.specs.Fits.{Fits, sizes_in, sizes_in_lem}
 
 pub record Parts (l : Lay) (n : ℕ) : Type 0 where
   pub header : 91 ≤ n
@@ -16,7 +16,7 @@ pub record Parts (l : Lay) (n : ℕ) : Type 0 where
   pub sizes : SizesOk (sizes_in l)
 
 -- as a layout gives it
-pub parts : (l : Lay) (n m : ℕ) → Ok l n m → Parts l n
+pub parts : (l : Lay) (n m : ℕ) → Fits l n m → Parts l n
 parts l n m h = record {
   header = h.header;
   protos = h.protos.fits;

@@ -3,8 +3,8 @@
 // they are, and a count never reads past its part.
 #![tactic(auto)]
 
-use layout::Sizes;
-use value::{StrOr, TableOr, UpvalRef, Value};
+use layout::Plan;
+use value::{StrRef, TableRef, UpvalRef, Value};
 
 pub mod prototypes;
 
@@ -14,11 +14,11 @@ ghost use Rattle.main_record.specs.Parts.{Parts};
 ghost use Rattle.main_record.specs.Main.{main_top, set_main_top, main_open_count, set_main_open_count, main_ci, set_main_ci, main_error, set_main_error, main_hook, set_main_hook, global, set_global, registry, set_registry, mode_name, set_mode_name, gc_name, set_gc_name, type_meta, set_type_meta, main_value, set_main_value, main_open, set_main_open, frame_function, set_frame_function};
 
 // The stack below top.
-pub fn main_top(w: &[u32], l: Sizes) -> usize
-    requires { Parts (lay_of l) (length w.now) }
-    ensures { (result ≡ main_top (lay_of l) w.now) × (result ≤ (lay_of l).stack.room) }
+pub fn main_top(w: &[u32], l: Plan) -> usize
+    requires { Parts (lay_of l.sizes) (length w.now) }
+    ensures { (result ≡ main_top (lay_of l.sizes) w.now) × (result ≤ (lay_of l.sizes).stack.room) }
 {
-    record::least(record::number_at(w, layout::TOP), l.stack)
+    record::least(record::number_at(w, layout::TOP), l.sizes.stack)
 }
 
 pub fn set_main_top(w: &mut [u32], n: usize)
@@ -30,11 +30,11 @@ pub fn set_main_top(w: &mut [u32], n: usize)
 }
 
 // How many open upvalues there are.
-pub fn main_open_count(w: &[u32], l: Sizes) -> usize
-    requires { Parts (lay_of l) (length w.now) }
-    ensures { (result ≡ main_open_count (lay_of l) w.now) × (result ≤ (lay_of l).opens.room) }
+pub fn main_open_count(w: &[u32], l: Plan) -> usize
+    requires { Parts (lay_of l.sizes) (length w.now) }
+    ensures { (result ≡ main_open_count (lay_of l.sizes) w.now) × (result ≤ (lay_of l.sizes).opens.room) }
 {
-    record::least(record::number_at(w, layout::OPENS), l.opens)
+    record::least(record::number_at(w, layout::OPENS), l.sizes.opens)
 }
 
 pub fn set_main_open_count(w: &mut [u32], n: usize)
@@ -46,11 +46,11 @@ pub fn set_main_open_count(w: &mut [u32], n: usize)
 }
 
 // The current frame.
-pub fn main_ci(w: &[u32], l: Sizes) -> usize
-    requires { Parts (lay_of l) (length w.now) }
-    ensures { (result ≡ main_ci (lay_of l) w.now) × (result < (lay_of l).frames.room) }
+pub fn main_ci(w: &[u32], l: Plan) -> usize
+    requires { Parts (lay_of l.sizes) (length w.now) }
+    ensures { (result ≡ main_ci (lay_of l.sizes) w.now) × (result < (lay_of l.sizes).frames.room) }
 {
-    record::least(record::number_at(w, layout::CI), l.frames - 1)
+    record::least(record::number_at(w, layout::CI), l.sizes.frames - 1)
 }
 
 pub fn set_main_ci(w: &mut [u32], n: usize)
@@ -89,28 +89,28 @@ pub fn set_main_hook(w: &mut [u32], v: Value)
     value::write_value(w, layout::HOOK, v);
 }
 
-pub fn global(w: &[u32]) -> TableOr
+pub fn global(w: &[u32]) -> Option<TableRef>
     requires { 91 ≤ length w.now }
     ensures { result ≡ global w.now }
 {
     value::read_table_or(w, layout::GLOBAL)
 }
 
-pub fn set_global(w: &mut [u32], t: TableOr)
+pub fn set_global(w: &mut [u32], t: Option<TableRef>)
     requires { 91 ≤ length w.old }
     ensures { w.new ≡ set_global t w.old }
 {
     value::write_table_or(w, layout::GLOBAL, t);
 }
 
-pub fn registry(w: &[u32]) -> TableOr
+pub fn registry(w: &[u32]) -> Option<TableRef>
     requires { 91 ≤ length w.now }
     ensures { result ≡ registry w.now }
 {
     value::read_table_or(w, layout::REGISTRY)
 }
 
-pub fn set_registry(w: &mut [u32], t: TableOr)
+pub fn set_registry(w: &mut [u32], t: Option<TableRef>)
     requires { 91 ≤ length w.old }
     ensures { w.new ≡ set_registry t w.old }
 {
@@ -118,14 +118,14 @@ pub fn set_registry(w: &mut [u32], t: TableOr)
 }
 
 // The name `__mode`.
-pub fn mode_name(w: &[u32]) -> StrOr
+pub fn mode_name(w: &[u32]) -> Option<StrRef>
     requires { 91 ≤ length w.now }
     ensures { result ≡ mode_name w.now }
 {
     value::read_str_or(w, layout::NAME_MODE)
 }
 
-pub fn set_mode_name(w: &mut [u32], s: StrOr)
+pub fn set_mode_name(w: &mut [u32], s: Option<StrRef>)
     requires { 91 ≤ length w.old }
     ensures { w.new ≡ set_mode_name s w.old }
 {
@@ -133,14 +133,14 @@ pub fn set_mode_name(w: &mut [u32], s: StrOr)
 }
 
 // The name `__gc`.
-pub fn gc_name(w: &[u32]) -> StrOr
+pub fn gc_name(w: &[u32]) -> Option<StrRef>
     requires { 91 ≤ length w.now }
     ensures { result ≡ gc_name w.now }
 {
     value::read_str_or(w, layout::NAME_GC)
 }
 
-pub fn set_gc_name(w: &mut [u32], s: StrOr)
+pub fn set_gc_name(w: &mut [u32], s: Option<StrRef>)
     requires { 91 ≤ length w.old }
     ensures { w.new ≡ set_gc_name s w.old }
 {
@@ -148,7 +148,7 @@ pub fn set_gc_name(w: &mut [u32], s: StrOr)
 }
 
 // The metatable of type k.
-pub fn type_meta(w: &[u32], k: usize) -> TableOr
+pub fn type_meta(w: &[u32], k: usize) -> Option<TableRef>
     requires in_bounds { 91 ≤ length w.now }
     requires k_bound { k < 9 }
     ensures { result ≡ type_meta k w.now }
@@ -156,7 +156,7 @@ pub fn type_meta(w: &[u32], k: usize) -> TableOr
     value::read_table_or(w, layout::METATABLES + 2 * k)
 }
 
-pub fn set_type_meta(w: &mut [u32], k: usize, t: TableOr)
+pub fn set_type_meta(w: &mut [u32], k: usize, t: Option<TableRef>)
     requires in_bounds { 91 ≤ length w.old }
     requires k_bound { k < 9 }
     ensures { w.new ≡ set_type_meta k t w.old }
@@ -165,53 +165,53 @@ pub fn set_type_meta(w: &mut [u32], k: usize, t: TableOr)
 }
 
 // A place of the main stack.
-pub fn main_value(w: &[u32], l: Sizes, i: usize) -> Value
-    requires parts { Parts (lay_of l) (length w.now) }
-    requires i_bound { i < (lay_of l).stack.room }
-    ensures { result ≡ main_value (lay_of l) i w.now }
+pub fn main_value(w: &[u32], l: Plan, i: usize) -> Value
+    requires parts { Parts (lay_of l.sizes) (length w.now) }
+    requires i_bound { i < (lay_of l.sizes).stack.room }
+    ensures { result ≡ main_value (lay_of l.sizes) i w.now }
 {
     value::read_value(w, layout::stack_at(l) + 3 * i)
 }
 
-pub fn set_main_value(w: &mut [u32], l: Sizes, i: usize, v: Value)
-    requires parts { Parts (lay_of l) (length w.old) }
-    requires i_bound { i < (lay_of l).stack.room }
-    ensures { w.new ≡ set_main_value (lay_of l) i v w.old }
+pub fn set_main_value(w: &mut [u32], l: Plan, i: usize, v: Value)
+    requires parts { Parts (lay_of l.sizes) (length w.old) }
+    requires i_bound { i < (lay_of l.sizes).stack.room }
+    ensures { w.new ≡ set_main_value (lay_of l.sizes) i v w.old }
 {
     value::write_value(w, layout::stack_at(l) + 3 * i, v);
 }
 
 // An upvalue of the main open list.
-pub fn main_open(w: &[u32], l: Sizes, i: usize) -> UpvalRef
-    requires parts { Parts (lay_of l) (length w.now) }
-    requires i_bound { i < (lay_of l).opens.room }
-    ensures { result ≡ main_open (lay_of l) i w.now }
+pub fn main_open(w: &[u32], l: Plan, i: usize) -> UpvalRef
+    requires parts { Parts (lay_of l.sizes) (length w.now) }
+    requires i_bound { i < (lay_of l.sizes).opens.room }
+    ensures { result ≡ main_open (lay_of l.sizes) i w.now }
 {
     record::read_upval(w, layout::opens_at(l) + 2 * i)
 }
 
-pub fn set_main_open(w: &mut [u32], l: Sizes, i: usize, u: UpvalRef)
-    requires parts { Parts (lay_of l) (length w.old) }
-    requires i_bound { i < (lay_of l).opens.room }
-    ensures { w.new ≡ set_main_open (lay_of l) i u w.old }
+pub fn set_main_open(w: &mut [u32], l: Plan, i: usize, u: UpvalRef)
+    requires parts { Parts (lay_of l.sizes) (length w.old) }
+    requires i_bound { i < (lay_of l.sizes).opens.room }
+    ensures { w.new ≡ set_main_open (lay_of l.sizes) i u w.old }
 {
     record::write_upval(w, layout::opens_at(l) + 2 * i, u);
 }
 
 // The function index of frame i.
-pub fn frame_function(w: &[u32], l: Sizes, i: usize) -> usize
-    requires parts { Parts (lay_of l) (length w.now) }
-    requires i_bound { i < (lay_of l).frames.room }
-    ensures { (result ≡ frame_function (lay_of l) i w.now) × (result < 2 ^ 32) }
+pub fn frame_function(w: &[u32], l: Plan, i: usize) -> usize
+    requires parts { Parts (lay_of l.sizes) (length w.now) }
+    requires i_bound { i < (lay_of l.sizes).frames.room }
+    ensures { (result ≡ frame_function (lay_of l.sizes) i w.now) × (result < 2 ^ 32) }
 {
     record::number_at(w, layout::frames_at(l) + i)
 }
 
-pub fn set_frame_function(w: &mut [u32], l: Sizes, i: usize, n: usize)
-    requires parts { Parts (lay_of l) (length w.old) }
-    requires i_bound { i < (lay_of l).frames.room }
+pub fn set_frame_function(w: &mut [u32], l: Plan, i: usize, n: usize)
+    requires parts { Parts (lay_of l.sizes) (length w.old) }
+    requires i_bound { i < (lay_of l.sizes).frames.room }
     requires n_bound { n ≤ 256 }
-    ensures { w.new ≡ set_frame_function (lay_of l) i n w.old }
+    ensures { w.new ≡ set_frame_function (lay_of l.sizes) i n w.old }
 {
     record::put_number(w, layout::frames_at(l) + i, n);
 }

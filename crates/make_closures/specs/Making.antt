@@ -1,19 +1,19 @@
 -- Making a closure: document 01, 'Sizes' and 'Refusal numbers'. A prototype not made, more than 16 upvalues or values, or a
 -- list that is no whole number of them: 4. A handle given, or a constant of the prototype (nested ones too), that names no
 -- occupied slot of its kind: 2. Then 6 and 3. Assumes nothing.
-use Rattle.std.specs.Prelude.{◌≡◌, Bool, true, false, cond, ◌&&◌, List, ℕ, ◌/◌, ◌%◌, ◌≤◌, eqb, leb, length}
+use Rattle.std.specs.Prelude.{◌≡◌, Bool, true, false, cond, ◌&&◌, List, ℕ, ◌/◌, ◌%◌, ◌≤◌, eqb, leb, length, Err, Option, Result}
 use Rattle.std.proofs.Common.{sym, true≢false, leb-true}
 use Rattle.base.specs.Ways.{if_le}
 use Rattle.base.specs.Heap.{Heap}
+use Rattle.base.specs.declared.Refusal.TheVariants.{Stale, OutOfRange}
+use Rattle.base.specs.declared.Refusal.{Refusal}
 use Rattle.value.specs.declared.TableRef.{TableRef}
-use Rattle.value.specs.declared.TableOr.{TableOr}
 use Rattle.layout.specs.declared.Lay.{Lay}
 use Rattle.test1.specs.Calls.{call, in_words}
 use Rattle.main_record.specs.Prototypes.{protos_used}
 use Rattle.given.specs.Given.{is_table, is_table_or}
 use Rattle.sound.specs.Sound.{are_sound, are_upvalues, sound_proto}
 use Rattle.making.specs.declared.Made.{Made}
-use Rattle.making.specs.declared.Made.TheVariants.{Refused}
 use Rattle.closures.specs.Closures.{new_lua, new_rust}
 
 -- up to 16 of two words, and of three
@@ -36,24 +36,24 @@ values_most n p = leb-true n 48 (right (eqb (n % 3) 0) (leb n 48) p)
 unfoldable pub lua_sound : ℕ → TableRef → List ℕ → Lay → List ℕ → Bool
 lua_sound proto env s l w = is_table l env w && are_upvalues l s (length s / 2) w && sound_proto l w proto
 
-unfoldable pub lua_in : ℕ → TableRef → List ℕ → Lay → List ℕ → Made × List ℕ
+unfoldable pub lua_in : ℕ → TableRef → List ℕ → Lay → List ℕ → Result Made Refusal × List ℕ
 lua_in proto env s l w =
-    if_le (protos_used l w) proto (Refused 4, w)
+    if_le (protos_used l w) proto (Err OutOfRange, w)
     (cond (upvalues_fit (length s))
-    (cond (lua_sound proto env s l w) (new_lua proto env s l w) (Refused 2, w))
-    (Refused 4, w))
+    (cond (lua_sound proto env s l w) (new_lua proto env s l w) (Err Stale, w))
+    (Err OutOfRange, w))
 
-unfoldable pub make_lua_closure : ℕ → TableRef → List ℕ → Heap → Made × Heap
-make_lua_closure proto env s h = call Refused (in_words (lua_in proto env s)) h
+unfoldable pub make_lua_closure : ℕ → TableRef → List ℕ → Heap → Result Made Refusal × Heap
+make_lua_closure proto env s h = call Err (in_words (lua_in proto env s)) h
 
-unfoldable pub rust_sound : TableOr → List ℕ → Lay → List ℕ → Bool
+unfoldable pub rust_sound : Option TableRef → List ℕ → Lay → List ℕ → Bool
 rust_sound env s l w = is_table_or l env w && are_sound l s 0 (length s / 3) w
 
-unfoldable pub rust_in : TableOr → List ℕ → Lay → List ℕ → Made × List ℕ
+unfoldable pub rust_in : Option TableRef → List ℕ → Lay → List ℕ → Result Made Refusal × List ℕ
 rust_in env s l w =
     cond (values_fit (length s))
-    (cond (rust_sound env s l w) (new_rust env s l w) (Refused 2, w))
-    (Refused 4, w)
+    (cond (rust_sound env s l w) (new_rust env s l w) (Err Stale, w))
+    (Err OutOfRange, w)
 
-unfoldable pub make_rust_closure : TableOr → List ℕ → Heap → Made × Heap
-make_rust_closure env s h = call Refused (in_words (rust_in env s)) h
+unfoldable pub make_rust_closure : Option TableRef → List ℕ → Heap → Result Made Refusal × Heap
+make_rust_closure env s h = call Err (in_words (rust_in env s)) h

@@ -3,10 +3,9 @@
 // the handle that was made, index and generation, or the number of a prototype and 0.
 #![tactic(auto)]
 
-ghost use Rattle.std.specs.Prelude.{◌≡◌, ◌≤◌, length};
+ghost use Rattle.std.specs.Prelude.{◌≡◌, ◌≤◌, length, Err};
 ghost use Rattle.base.specs.Heap.{heap};
 ghost use Rattle.value.specs.Values.{value_of};
-ghost use Rattle.making.specs.declared.Made.TheVariants.{Refused};
 ghost use Rattle.make_strings.specs.Making.{make_string};
 ghost use Rattle.make_tables.specs.Making.{make_table, make_userdata};
 ghost use Rattle.make_threads.specs.Making.{make_open_upvalue, make_closed_upvalue, make_thread};
@@ -103,7 +102,7 @@ pub extern "C" fn sieddesan_make_rust_closure(
     values: &[u32],
     out: &mut [u32],
 ) -> u32
-    ensures { ((result, heap w.new b.now), out.new) ≡ lent 2 made_told (optional Refused some (listed values.now (make_rust_closure (table_of some env envgen) values.now))) (heap w.old b.now) out.old }
+    ensures { ((result, heap w.new b.now), out.new) ≡ lent 2 made_told (optional Err some (listed values.now (make_rust_closure (table_of some env envgen) values.now))) (heap w.old b.now) out.old }
 {
     if out.len() < 2 {
         return 1;
@@ -140,7 +139,7 @@ pub extern "C" fn sieddesan_make_closed_upvalue(
     high: u32,
     out: &mut [u32],
 ) -> u32
-    ensures { ((result, heap w.new b.now), out.new) ≡ lent 2 made_told (tagged Refused tag (make_closed_upvalue (value_of tag low high))) (heap w.old b.now) out.old }
+    ensures { ((result, heap w.new b.now), out.new) ≡ lent 2 made_told (tagged Err tag (make_closed_upvalue (value_of tag low high))) (heap w.old b.now) out.old }
 {
     if out.len() < 2 {
         return 1;

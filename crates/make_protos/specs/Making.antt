@@ -1,20 +1,22 @@
 -- Making a prototype: document 01, 'Sizes' and 'Refusal numbers'. Up to 16 constants, 3 words each, and 8 nested; each nested
 -- one is made, has no parent and is named once: else 4. A constant names an occupied slot of its kind: else 2. Every number
 -- used: 3. It takes the next number, which is above those of all nested ones. Assumes nothing.
-use Rattle.std.specs.Prelude.{◌≡◌, refl, Bool, true, false, cond, not, ◌&&◌, List, ℕ, ◌+◌, ◌/◌, ◌%◌, ◌≤◌, ◌<◌, eqb, leb, length}
+use Rattle.std.specs.Prelude.{◌≡◌, refl, Bool, true, false, cond, not, ◌&&◌, List, ℕ, ◌+◌, ◌/◌, ◌%◌, ◌≤◌, ◌<◌, eqb, leb, length, Ok, Err, Result}
 use Rattle.std.proofs.Common.{sym, ◌∙◌, true≢false, arith, leb-true}
 use Rattle.std.proofs.Math.Decide.{dec_lt}
 use Rattle.base.specs.Ways.{if_lt, if_le, le_yes}
 use Rattle.base.specs.Loop.{run}
 use Rattle.base.specs.Words.{at, clear}
 use Rattle.base.specs.Heap.{Heap}
+use Rattle.base.specs.declared.Refusal.TheVariants.{Stale, Full, OutOfRange}
+use Rattle.base.specs.declared.Refusal.{Refusal}
 use Rattle.layout.specs.declared.Lay.{Lay}
 use Rattle.layout.specs.Places.{PROTO_WORDS}
 use Rattle.test1.specs.Calls.{call, in_words}
 use Rattle.main_record.specs.Prototypes.{protos_used, set_protos_used, proto_at, set_proto_counts, proto_parent, set_proto_parent, set_proto_child}
 use Rattle.sound.specs.Sound.{are_sound}
 use Rattle.making.specs.declared.Made.{Made}
-use Rattle.making.specs.declared.Made.TheVariants.{Proto, Refused}
+use Rattle.making.specs.declared.Made.TheVariants.{Proto}
 use Rattle.making.specs.Making.{put_values}
 use Rattle.making.specs.Turns.{each, each_holds}
 
@@ -64,20 +66,20 @@ put_proto l n constants nested w =
     let w₄ = put_nested l n nested w₃ in
     set_protos_used (n + 1) w₄
 
-unfoldable pub proto_in : List ℕ → List ℕ → Lay → List ℕ → Made × List ℕ
+unfoldable pub proto_in : List ℕ → List ℕ → Lay → List ℕ → Result Made Refusal × List ℕ
 proto_in constants nested l w =
     let n = protos_used l w in
     cond (lengths_fit (length constants) (length nested))
     (cond (are_nestable l w nested)
     (cond (are_sound l constants 0 (length constants / 3) w)
-    (if_le l.protos.room n (Refused 3, w)
-    (Proto n, put_proto l n constants nested w))
-    (Refused 2, w))
-    (Refused 4, w))
-    (Refused 4, w)
+    (if_le l.protos.room n (Err Full, w)
+    (Ok (Proto n), put_proto l n constants nested w))
+    (Err Stale, w))
+    (Err OutOfRange, w))
+    (Err OutOfRange, w)
 
-unfoldable pub make_proto : List ℕ → List ℕ → Heap → Made × Heap
-make_proto constants nested h = call Refused (in_words (proto_in constants nested)) h
+unfoldable pub make_proto : List ℕ → List ℕ → Heap → Result Made Refusal × Heap
+make_proto constants nested h = call Err (in_words (proto_in constants nested)) h
 
 -- every number of s is below m; so it is where all may be nested
 unfoldable pub Below : ℕ → List ℕ → Type 0

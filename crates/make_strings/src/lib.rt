@@ -6,28 +6,20 @@ ghost use Rattle.std.specs.Prelude.{◌≡◌, ◌*◌, ◌+◌, ◌≤◌, ◌<
 ghost use Rattle.layout.specs.Layout.{lay_of};
 ghost use Rattle.base.specs.Heap.{heap};
 ghost use Rattle.arena.specs.Slots.{Room};
-ghost use Rattle.laid.specs.Laid.{Laid};
 ghost use Rattle.make_strings.specs.Making.{holds, find_string, Below, kept, found_string, put_text, new_string, string_in, make_string};
 
 use arena::Arena;
-use layout::{Opened, Sizes};
-use making::{Made, New};
+use base::Refusal;
+use layout::Plan;
+use making::Made;
 use value::StrRef;
 
-// The slot that holds the bytes.
-#[derive(Clone, Copy)]
-pub enum Found {
-    At(usize),
-    Nothing,
-}
-
 // Whether slot i is occupied and holds these bytes.
-fn holds(w: &[u32], b: &[u8], l: Sizes, s: &[u8], i: usize) -> bool
-    requires laid { Laid (lay_of l) }
-    requires l_in_bounds { (lay_of l).words ≤ length w.now }
-    requires l_in_bounds_2 { (lay_of l).bytes ≤ length b.now }
-    requires i_bound { i < (lay_of l).strings.slots }
-    ensures { result ≡ holds (lay_of l) s.now (heap w.now b.now) i }
+fn holds(w: &[u32], b: &[u8], l: Plan, s: &[u8], i: usize) -> bool
+    requires l_in_bounds { (lay_of l.sizes).words ≤ length w.now }
+    requires l_in_bounds_2 { (lay_of l.sizes).bytes ≤ length b.now }
+    requires i_bound { i < (lay_of l.sizes).strings.slots }
+    ensures { result ≡ holds (lay_of l.sizes) s.now (heap w.now b.now) i }
 {
     let strings = layout::strings_of(l);
     if arena::colour_of(w, strings, i) == 0 {
@@ -38,21 +30,18 @@ fn holds(w: &[u32], b: &[u8], l: Sizes, s: &[u8], i: usize) -> bool
 }
 
 // The first slot that does.
-fn find_string(w: &[u32], b: &[u8], l: Sizes, s: &[u8]) -> Found
-    requires laid { Laid (lay_of l) }
-    requires l_in_bounds { (lay_of l).words ≤ length w.now }
-    requires l_in_bounds_2 { (lay_of l).bytes ≤ length b.now }
-    ensures { (result ≡ find_string (lay_of l) s.now (heap w.now b.now)) × Below result (lay_of l).strings.slots }
+fn find_string(w: &[u32], b: &[u8], l: Plan, s: &[u8]) -> Option<usize>
+    requires l_in_bounds { (lay_of l.sizes).words ≤ length w.now }
+    requires l_in_bounds_2 { (lay_of l.sizes).bytes ≤ length b.now }
+    ensures { (result ≡ find_string (lay_of l.sizes) s.now (heap w.now b.now)) × Below result (lay_of l.sizes).strings.slots }
 {
     let end = arena::used_of(w, layout::strings_of(l));
-    let mut i: usize = 0;
-    while i < end {
+    for i in 0..end {
         if holds(w, b, l, s, i) {
-            return Found::At(i);
+            return Some(i);
         }
-        i += 1;
     }
-    Found::Nothing
+    None
 }
 
 // A string found while old white takes the current white.
@@ -67,16 +56,15 @@ fn keep(w: &mut [u32], a: Arena, i: usize)
     }
 }
 
-fn found_string(w: &mut [u32], l: Sizes, i: usize) -> Made
-    requires laid { Laid (lay_of l) }
-    requires l_in_bounds { (lay_of l).words ≤ length w.old }
-    requires i_bound { i < (lay_of l).strings.slots }
-    ensures { (result, w.new) ≡ found_string (lay_of l) i w.old }
+fn found_string(w: &mut [u32], l: Plan, i: usize) -> Result<Made, Refusal>
+    requires l_in_bounds { (lay_of l.sizes).words ≤ length w.old }
+    requires i_bound { i < (lay_of l.sizes).strings.slots }
+    ensures { (result, w.new) ≡ found_string (lay_of l.sizes) i w.old }
 {
     let strings = layout::strings_of(l);
     let g = arena::generation_of(w, strings, i);
     keep(w, strings, i);
-    Made::Str(StrRef(i as u32, g))
+    Ok(Made::Str(StrRef(i as u32, g)))
 }
 
 // The bytes of slot i are s and then 0.
@@ -89,49 +77,41 @@ fn put_text(b: &mut [u8], i: usize, s: &[u8])
     record::strings::text_put(b, i, s);
 }
 
-fn new_string(w: &mut [u32], b: &mut [u8], l: Sizes, s: &[u8]) -> Made
-    requires laid { Laid (lay_of l) }
-    requires l_in_bounds { (lay_of l).words ≤ length w.old }
-    requires l_in_bounds_2 { (lay_of l).bytes ≤ length b.old }
+fn new_string(w: &mut [u32], b: &mut [u8], l: Plan, s: &[u8]) -> Result<Made, Refusal>
+    requires l_in_bounds { (lay_of l.sizes).words ≤ length w.old }
+    requires l_in_bounds_2 { (lay_of l.sizes).bytes ≤ length b.old }
     requires s_len_bound { length s.now ≤ 64 }
-    ensures { (result, heap w.new b.new) ≡ new_string s.now (lay_of l) (heap w.old b.old) }
+    ensures { (result, heap w.new b.new) ≡ new_string s.now (lay_of l.sizes) (heap w.old b.old) }
 {
-    match making::new_object(
+    let (i, g, p) = making::new_object(
         w,
         layout::strings_of(l),
         making::STRING,
         layout::STRING_WORDS,
-    ) {
-        New::At(i, g, p) => {
-            record::strings::set_string_length(w, p, s.len());
-            put_text(b, base::wide(i), s);
-            Made::Str(StrRef(i, g))
-        }
-        New::Refused(k) => Made::Refused(k),
-    }
+    )?;
+    record::strings::set_string_length(w, p, s.len());
+    put_text(b, base::wide(i), s);
+    Ok(Made::Str(StrRef(i, g)))
 }
 
-fn string_in(w: &mut [u32], b: &mut [u8], l: Sizes, s: &[u8]) -> Made
-    requires laid { Laid (lay_of l) }
-    requires l_in_bounds { (lay_of l).words ≤ length w.old }
-    requires l_in_bounds_2 { (lay_of l).bytes ≤ length b.old }
-    ensures { (result, heap w.new b.new) ≡ string_in s.now (lay_of l) (heap w.old b.old) }
+fn string_in(w: &mut [u32], b: &mut [u8], l: Plan, s: &[u8]) -> Result<Made, Refusal>
+    requires l_in_bounds { (lay_of l.sizes).words ≤ length w.old }
+    requires l_in_bounds_2 { (lay_of l.sizes).bytes ≤ length b.old }
+    ensures { (result, heap w.new b.new) ≡ string_in s.now (lay_of l.sizes) (heap w.old b.old) }
 {
     if 64 < s.len() {
-        return Made::Refused(4);
+        return Err(Refusal::OutOfRange);
     }
     match find_string(w, b, l, s) {
-        Found::At(i) => found_string(w, l, i),
-        Found::Nothing => new_string(w, b, l, s),
+        Some(i) => found_string(w, l, i),
+        None => new_string(w, b, l, s),
     }
 }
 
 // A string with these bytes, found or new.
-pub fn make_string(w: &mut [u32], b: &mut [u8], s: &[u8]) -> Made
+pub fn make_string(w: &mut [u32], b: &mut [u8], s: &[u8]) -> Result<Made, Refusal>
     ensures { (result, heap w.new b.new) ≡ make_string s.now (heap w.old b.old) }
 {
-    match test1::enter(w, b) {
-        Opened::Fits(l) => string_in(w, b, l, s),
-        Opened::Refused(n) => Made::Refused(n),
-    }
+    let l = test1::enter(w, b)?;
+    string_in(w, b, l, s)
 }

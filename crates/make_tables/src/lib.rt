@@ -5,11 +5,11 @@
 ghost use Rattle.std.specs.Prelude.{◌≡◌, ◌≤◌, length};
 ghost use Rattle.layout.specs.Layout.{lay_of};
 ghost use Rattle.base.specs.Heap.{heap};
-ghost use Rattle.laid.specs.Laid.{Laid};
 ghost use Rattle.make_tables.specs.Making.{is_nodes, new_table, table_in, make_table, userdata_in, make_userdata};
 
-use layout::{Opened, Sizes};
-use making::{Made, New};
+use base::Refusal;
+use layout::Plan;
+use making::Made;
 use value::{TableRef, UdRef};
 
 // Nodes 0, 1, 2, 4, 8, 16, 32 or 64.
@@ -19,73 +19,59 @@ fn is_nodes(n: u32) -> bool
     (n == 0) | (n == 1) | (n == 2) | (n == 4) | (n == 8) | (n == 16) | (n == 32) | (n == 64)
 }
 
-fn new_table(w: &mut [u32], l: Sizes, array: usize, nodes: usize) -> Made
-    requires laid { Laid (lay_of l) }
-    requires l_in_bounds { (lay_of l).words ≤ length w.old }
+fn new_table(w: &mut [u32], l: Plan, array: usize, nodes: usize) -> Result<Made, Refusal>
+    requires l_in_bounds { (lay_of l.sizes).words ≤ length w.old }
     requires array_bound { (array ≤ 64) × (nodes ≤ 64) }
-    ensures { (result, w.new) ≡ new_table array nodes (lay_of l) w.old }
+    ensures { (result, w.new) ≡ new_table array nodes (lay_of l.sizes) w.old }
 {
     let n = record::tables::table_extent(array, nodes);
-    match making::new_object(w, layout::tables_of(l), making::TABLE, n) {
-        New::At(i, g, p) => {
-            record::tables::set_table_sizes(w, p, array, nodes);
-            Made::Table(TableRef(i, g))
-        }
-        New::Refused(k) => Made::Refused(k),
-    }
+    let (i, g, p) = making::new_object(w, layout::tables_of(l), making::TABLE, n)?;
+    record::tables::set_table_sizes(w, p, array, nodes);
+    Ok(Made::Table(TableRef(i, g)))
 }
 
-fn table_in(w: &mut [u32], l: Sizes, array: u32, nodes: u32) -> Made
-    requires laid { Laid (lay_of l) }
-    requires l_in_bounds { (lay_of l).words ≤ length w.old }
-    ensures { (result, w.new) ≡ table_in array nodes (lay_of l) w.old }
+fn table_in(w: &mut [u32], l: Plan, array: u32, nodes: u32) -> Result<Made, Refusal>
+    requires l_in_bounds { (lay_of l.sizes).words ≤ length w.old }
+    ensures { (result, w.new) ≡ table_in array nodes (lay_of l.sizes) w.old }
 {
     if 64 < array {
-        return Made::Refused(4);
+        return Err(Refusal::OutOfRange);
     }
     if is_nodes(nodes) {
-        return new_table(w, l, base::wide(array), base::wide(nodes));
+        new_table(w, l, base::wide(array), base::wide(nodes))
+    } else {
+        Err(Refusal::OutOfRange)
     }
-    Made::Refused(4)
 }
 
 // A table with so many places in its array and so many nodes, all nil, and no metatable.
-pub fn make_table(w: &mut [u32], b: &[u8], array: u32, nodes: u32) -> Made
+pub fn make_table(w: &mut [u32], b: &[u8], array: u32, nodes: u32) -> Result<Made, Refusal>
     ensures { (result, heap w.new b.now) ≡ make_table array nodes (heap w.old b.now) }
 {
-    match test1::enter(w, b) {
-        Opened::Fits(l) => table_in(w, l, array, nodes),
-        Opened::Refused(n) => Made::Refused(n),
-    }
+    let l = test1::enter(w, b)?;
+    table_in(w, l, array, nodes)
 }
 
-fn userdata_in(w: &mut [u32], l: Sizes) -> Made
-    requires laid { Laid (lay_of l) }
-    requires l_in_bounds { (lay_of l).words ≤ length w.old }
-    ensures { (result, w.new) ≡ userdata_in (lay_of l) w.old }
+fn userdata_in(w: &mut [u32], l: Plan) -> Result<Made, Refusal>
+    requires l_in_bounds { (lay_of l.sizes).words ≤ length w.old }
+    ensures { (result, w.new) ≡ userdata_in (lay_of l.sizes) w.old }
 {
-    match making::new_object(
+    let (i, g, p) = making::new_object(
         w,
         layout::userdata_of(l),
         making::USERDATA,
         layout::USERDATA_WORDS,
-    ) {
-        New::At(i, g, p) => {
-            let number = base::get64(w, layout::CREATION);
-            record::userdata::set_ud_creation(w, p, number);
-            base::put64(w, layout::CREATION, base::add_sat(number, 1));
-            Made::Userdata(UdRef(i, g))
-        }
-        New::Refused(k) => Made::Refused(k),
-    }
+    )?;
+    let number = base::get64(w, layout::CREATION);
+    record::userdata::set_ud_creation(w, p, number);
+    base::put64(w, layout::CREATION, base::add_sat(number, 1));
+    Ok(Made::Userdata(UdRef(i, g)))
 }
 
 // A userdata with the next creation number, with no metatable and no env.
-pub fn make_userdata(w: &mut [u32], b: &[u8]) -> Made
+pub fn make_userdata(w: &mut [u32], b: &[u8]) -> Result<Made, Refusal>
     ensures { (result, heap w.new b.now) ≡ make_userdata (heap w.old b.now) }
 {
-    match test1::enter(w, b) {
-        Opened::Fits(l) => userdata_in(w, l),
-        Opened::Refused(n) => Made::Refused(n),
-    }
+    let l = test1::enter(w, b)?;
+    userdata_in(w, l)
 }

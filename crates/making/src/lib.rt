@@ -8,7 +8,8 @@ ghost use Rattle.arena.specs.Slots.{Room};
 ghost use Rattle.record.specs.Fields.{body_at};
 ghost use Rattle.making.specs.Making.{begun, new_object, Placed, put_values};
 
-use arena::{Arena, Took};
+use arena::{Arena, Untaken};
+use base::Refusal;
 use value::{FuncRef, StrRef, TableRef, ThreadRef, UdRef, UpvalRef};
 
 // What a call that makes something answers: a handle of the kind made, a prototype's number, or a refusal.
@@ -21,14 +22,6 @@ pub enum Made {
     Userdata(UdRef),
     Thread(ThreadRef),
     Proto(u32),
-    Refused(u32),
-}
-
-// A new object of any kind: the index and generation of its handle, and the place of its body.
-#[derive(Clone, Copy)]
-pub enum New {
-    At(u32, u32, usize),
-    Refused(u32),
 }
 
 // Sizes in the total.
@@ -57,21 +50,26 @@ fn begin(w: &mut [u32], a: Arena, i: usize, size: u32, n: usize) -> usize
 }
 
 // A new object with a record of n words, of this size in the total. 6 and 3 change nothing; damage is marked, and is 8.
-pub fn new_object(w: &mut [u32], a: Arena, size: u32, n: usize) -> New
+pub fn new_object(
+    w: &mut [u32],
+    a: Arena,
+    size: u32,
+    n: usize,
+) -> Result<(u32, u32, usize), Refusal>
     requires room { Room a w.old }
     requires in_bounds { (91 ≤ length w.old) × (n ≤ a.stride) × (n ≤ 580) }
     ensures { ((result, w.new) ≡ new_object a size n w.old) × Placed result a (length w.old) }
 {
     if counters::would_pass(counters::counters_of(w), size) {
-        return New::Refused(6);
+        return Err(Refusal::TooLarge);
     }
     let white = base::get(w, layout::WHITE);
     match arena::take_slot(w, a, white, n as u32) {
-        Took::Slot(i, g) => New::At(i as u32, g, begin(w, a, i, size, n)),
-        Took::Full => New::Refused(3),
-        Took::Damaged => {
+        Ok((i, g)) => Ok((i as u32, g, begin(w, a, i, size, n))),
+        Err(Untaken::NoneFree) => Err(Refusal::Full),
+        Err(Untaken::Broken) => {
             base::put(w, layout::DAMAGE, 1);
-            New::Refused(8)
+            Err(Refusal::Damaged)
         }
     }
 }
@@ -81,9 +79,7 @@ pub fn put_values(w: &mut [u32], p: usize, s: &[u32], n: usize)
     requires { (p + 3 * n ≤ length w.old) × (3 * n ≤ length s.now) }
     ensures { w.new ≡ put_values p s.now n w.old }
 {
-    let mut k: usize = 0;
-    while k < n {
+    for k in 0..n {
         value::write_value(w, p + 3 * k, value::read_value(s, 3 * k));
-        k += 1;
     }
 }

@@ -4,20 +4,16 @@
 --     strong_out, strong_in            strong references are the followed links
 --     accessible_exact                 accessible is reached
 --     finalize_exact, retained_exact   what is put on the list of those to finalize is due; what is not collected is kept
-use Rattle.std.specs.Prelude.{◌≡◌, Bool, false, cond, ◌⊎◌, ◌↔◌, ℕ, ◌<◌, eqb}
+use Rattle.std.specs.Prelude.{◌≡◌, Bool, false, cond, ◌⊎◌, ◌↔◌, ℕ, ◌<◌, eqb, Some, None, Option}
 use Rattle.std.proofs.Math.Path.{refl, ap}
 use Rattle.std.proofs.Common.{sym, subst, ◌∙◌, true≢false, arith, eqb-true, eq-eqb}
 use Rattle.std.proofs.Math.Bool.{true}
 use mathlib.Core.List.Memᴰ
 use mathlib.Core.List.{List, [], ◌∷◌, ◌++◌, Memᴰ}
 use Rattle.std.proofs.Math.Logic.{inl, inr, ⊎_elim}
-use Rattle.arena.specs.declared.Named.{Named}
-use Rattle.arena.specs.declared.Named.TheVariants.{At, Stale}
 use Rattle.arena.specs.Slots.{named}
 use Rattle.value.specs.declared.StrRef.{StrRef}
 use Rattle.value.specs.declared.TableRef.{TableRef}
-use Rattle.value.specs.declared.TableOr.{TableOr}
-use Rattle.value.specs.declared.TableOr.TheVariants.{Absent, Present}
 use Rattle.value.specs.declared.Value.{Value}
 use Rattle.value.specs.declared.Value.TheVariants.{Nil, Boolean, Light, Number, Str, Table, Function, Userdata, Thread}
 use Rattle.value.specs.Values.{is_nil}
@@ -90,9 +86,9 @@ module _ (l : Lay) (w b : List ℕ) where
   mode_is : (r : Ref) (s : List ℕ) → ModeIs l w b r s → mode_at r ≡ mode_of_text s
   unfolding weak_mode mode_of_value mode_of_string
   mode_is r s m =
-      ap (λ (t : TableOr). weak_mode l t w b) m.given
+      ap (λ (t : Option TableRef). weak_mode l t w b) m.given
       ∙ ap (λ (v : Value). mode_of_value l v w b) m.under
-      ∙ ap (λ (n : Named). mode_of_slot l w b n) m.found
+      ∙ ap (λ (n : Option ℕ). mode_of_slot l w b n) m.found
       ∙ ap mode_of_text (sym m.text)
 
   -- and where it is weak there are such bytes.
@@ -106,16 +102,16 @@ module _ (l : Lay) (w b : List ℕ) where
       none : part strong ≡ true → Given part r
       none h = absurd (true≢false (sym h ∙ z))
 
-      by_slot : (t : TableRef) → table_meta (in_tables l w b r) w ≡ Present t → (s : StrRef) → field l t (mode_name w) w ≡ Str s
-          → (n : Named) → named l.strings s.0 s.1 w ≡ n → part (mode_of_slot l w b n) ≡ true → Given part r
-      by_slot t f s g Stale h i = none i
-      by_slot t f s g (At j) h i = (
+      by_slot : (t : TableRef) → table_meta (in_tables l w b r) w ≡ Some t → (s : StrRef) → field l t (mode_name w) w ≡ Str s
+          → (n : Option ℕ) → named l.strings s.0 s.1 w ≡ n → part (mode_of_slot l w b n) ≡ true → Given part r
+      by_slot t f s g None h i = none i
+      by_slot t f s g (Some j) h i = (
         text_of j (string_length (body_at l.strings j) w) b,
         record { table = k; metatable = t; given = f; string = s; under = g; slot = j; found = h; text = refl },
         i,
       )
 
-      by_value : (t : TableRef) → table_meta (in_tables l w b r) w ≡ Present t → (v : Value) → field l t (mode_name w) w ≡ v → part (mode_of_value l v w b) ≡ true → Given part r
+      by_value : (t : TableRef) → table_meta (in_tables l w b r) w ≡ Some t → (v : Value) → field l t (mode_name w) w ≡ v → part (mode_of_value l v w b) ≡ true → Given part r
       by_value t f Nil g h = none h
       by_value t f (Boolean x) g h = none h
       by_value t f (Light x) g h = none h
@@ -126,9 +122,9 @@ module _ (l : Lay) (w b : List ℕ) where
       by_value t f (Userdata x) g h = none h
       by_value t f (Thread x) g h = none h
 
-      by_meta : (t : TableOr) → table_meta (in_tables l w b r) w ≡ t → part (weak_mode l t w b) ≡ true → Given part r
-      by_meta Absent f h = none h
-      by_meta (Present t) f h = by_value t f (field l t (mode_name w) w) refl h
+      by_meta : (t : Option TableRef) → table_meta (in_tables l w b r) w ≡ t → part (weak_mode l t w b) ≡ true → Given part r
+      by_meta None f h = none h
+      by_meta (Some t) f h = by_value t f (field l t (mode_name w) w) refl h
 
   -- The manual's weak tables are those of document 01.
   pub weak_keys : (x : Object l w b) → x.0.kind ≡ 1 → WeakKeys (heap l w b) x ↔ ((mode_at x.0).keys ≡ true)

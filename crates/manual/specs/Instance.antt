@@ -1,13 +1,11 @@
 -- The manual's heap at the words w and bytes b of a heap of layout l: objects are the handles that name occupied slots, and each
 -- reference is read from a record by place, one clause each. Where the manual leaves open what is a reference, or the source
 -- decides otherwise, the clause says so. Assumes nothing: these are definitions.
-use Rattle.std.specs.Prelude.{◌≡◌, true, false, ℕ, ◌≤◌, ◌<◌}
+use Rattle.std.specs.Prelude.{◌≡◌, true, false, ℕ, ◌≤◌, ◌<◌, Some}
 use mathlib.Core.List.{List, [], Memᴰ}
-use Rattle.arena.specs.declared.Named.TheVariants.{At}
 use Rattle.arena.specs.Slots.{named}
 use Rattle.value.specs.declared.StrRef.{StrRef}
 use Rattle.value.specs.declared.TableRef.{TableRef}
-use Rattle.value.specs.declared.TableOr.TheVariants.{Present}
 use Rattle.value.specs.declared.Value.TheVariants.{Str}
 use Rattle.value.specs.Values.{is_nil}
 use Rattle.layout.specs.declared.Lay.{Lay}
@@ -96,11 +94,11 @@ module _ (l : Lay) (w b : List ℕ) where
   pub record ModeIs (r : Ref) (s : List ℕ) : Type 0 where
     pub table : r.kind ≡ 1
     pub metatable : TableRef
-    pub given : table_meta (in_tables r) w ≡ Present metatable
+    pub given : table_meta (in_tables r) w ≡ Some metatable
     pub string : StrRef
     pub under : field l metatable (mode_name w) w ≡ Str string
     pub slot : ℕ
-    pub found : named l.strings string.0 string.1 w ≡ At slot
+    pub found : named l.strings string.0 string.1 w ≡ Some slot
     pub text : s ≡ text_of slot (string_length (body_at l.strings slot) w) b
 
   -- A userdata's metatable has, under the name `__gc`, a value that is not nil.

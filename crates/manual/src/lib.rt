@@ -1,11 +1,2 @@
-// What the manual promises, and where it agrees: all of it stands in specs/. A crate has a function, so here is one.
+// What the manual promises, and where it agrees: all of it stands in specs/.
 #![tactic(auto)]
-
-ghost use Rattle.std.specs.Prelude.{◌≡◌};
-
-// The number that it is given.
-pub fn same(x: u32) -> u32
-    ensures { result ≡ x }
-{
-    x
-}

@@ -1,5 +1,5 @@
 -- Marking, over any heap that has the operations: a definition for each function, composed as the code is. Assumes nothing.
-use Rattle.std.specs.Prelude.{cond, ℕ, ◌+◌, ◌*◌}
+use Rattle.std.specs.Prelude.{cond, ℕ, ◌+◌, ◌*◌, Some, None, Option}
 use Rattle.base.specs.Loop.{run}
 use Rattle.value.specs.declared.StrRef.{StrRef}
 use Rattle.value.specs.declared.TableRef.{TableRef}
@@ -7,8 +7,6 @@ use Rattle.value.specs.declared.FuncRef.{FuncRef}
 use Rattle.value.specs.declared.UpvalRef.{UpvalRef}
 use Rattle.value.specs.declared.UdRef.{UdRef}
 use Rattle.value.specs.declared.ThreadRef.{ThreadRef}
-use Rattle.value.specs.declared.TableOr.{TableOr}
-use Rattle.value.specs.declared.TableOr.TheVariants.{Absent, Present}
 use Rattle.value.specs.declared.Value.{Value}
 use Rattle.value.specs.declared.Value.TheVariants.{Nil, Boolean, Light, Number, Str, Table, Function, Userdata, Thread}
 use Rattle.value.specs.Values.{value_at}
@@ -38,9 +36,9 @@ module _ {S : Type 0} (O : Ops S) where
   unfoldable pub mark_thread : ThreadRef → S → S
   mark_thread r s = mark_gray (thread r) (item.Thread r) s
 
-  unfoldable pub mark_table_or : TableOr → S → S
-  mark_table_or (Present r) s = mark_table r s
-  mark_table_or Absent s = s
+  unfoldable pub mark_table_or : Option TableRef → S → S
+  mark_table_or (Some r) s = mark_table r s
+  mark_table_or None s = s
 
   -- The colour of what a value refers to, 0 where it refers to nothing.
   unfoldable pub value_colour : Value → S → ℕ

@@ -1,10 +1,9 @@
 -- What marking asks of a heap, as an interface: an object is named by kind, index and generation; it has a colour and can
 -- be painted; the working lists take and give items; links are read from the words. Marking is defined over it, and the
 -- words of a heap are one instance (specs/Words). Assumes nothing.
-use Rattle.std.specs.Prelude.{Bool, true, cond, List, ℕ, eqb}
+use Rattle.std.specs.Prelude.{Bool, true, cond, List, ℕ, eqb, Option}
 use Rattle.base.specs.Ways.{if_eq}
 use Rattle.lists.specs.declared.Item.{Item}
-use Rattle.lists.specs.declared.Popped.{Popped}
 use Rattle.value.specs.declared.StrRef.{StrRef}
 use Rattle.value.specs.declared.TableRef.{TableRef}
 use Rattle.value.specs.declared.FuncRef.{FuncRef}
@@ -49,7 +48,7 @@ pub record Ops (S : Type 0) : Type 0 where
   pub colour : Ref → S → ℕ  -- 0 where nothing occupied is named, 1 and 2 white, 3 gray, 4 black
   pub paint : Ref → ℕ → S → S
   pub push : Work → Item → S → S
-  pub pop : Work → S → Popped × S
+  pub pop : Work → S → Option Item × S
   pub clear : Work → S → S
   pub body : S → List ℕ  -- the words that links are read from
 

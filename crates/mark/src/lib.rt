@@ -10,13 +10,12 @@ ghost use Rattle.lists.specs.Lists.{RoomFor};
 ghost use Rattle.value.specs.Values.{is_nil, value_of, value_at};
 ghost use Rattle.mark.specs.Ops.{is_white, other_white};
 ghost use Rattle.mark.specs.Words.{shade, grayed, ops};
-ghost use Rattle.laid.specs.Laid.{Laid};
 ghost use Rattle.mark.specs.Marking.{mark_string, mark_table, mark_table_or, mark_closure, mark_thread, follow_userdata, mark_userdata, follow_upvalue, mark_upvalue, value_colour, mark_value, mark_value_at, mark_values, mark_upvalue_at, mark_upvalues};
 
 use arena::Arena;
-use layout::{List, Sizes};
+use layout::{List, Plan};
 use lists::Item;
-use value::{FuncRef, StrRef, TableOr, TableRef, ThreadRef, UdRef, UpvalRef, Value};
+use value::{FuncRef, StrRef, TableRef, ThreadRef, UdRef, UpvalRef, Value};
 
 // The colour of the slot that a handle names, 0 where it names none.
 pub fn shade(w: &[u32], a: Arena, index: u32, generation: u32) -> u32
@@ -24,32 +23,24 @@ pub fn shade(w: &[u32], a: Arena, index: u32, generation: u32) -> u32
     ensures { result ≡ shade a index generation w.now }
 {
     let i = base::wide(index);
-    if arena::used_of(w, a) <= i {
-        return 0;
+    if i < arena::used_of(w, a) && arena::generation_of(w, a, i) == generation {
+        arena::colour_of(w, a, i)
+    } else {
+        0
     }
-    if arena::generation_of(w, a, i) == generation {
-        return arena::colour_of(w, a, i);
-    }
-    0
 }
 
 pub fn is_white(c: u32) -> bool
     ensures { result ≡ is_white c }
 {
-    if c == 1 {
-        return true;
-    }
-    c == 2
+    c == 1 || c == 2
 }
 
 // The white that is not this one.
 pub fn other_white(c: u32) -> u32
     ensures { result ≡ other_white c }
 {
-    if c == 1 {
-        return 2;
-    }
-    1
+    if c == 1 { 2 } else { 1 }
 }
 
 // What is white becomes gray and is listed.
@@ -64,10 +55,9 @@ fn mark_gray(w: &mut [u32], a: Arena, g: List, index: u32, generation: u32, x: I
     }
 }
 
-pub fn mark_string(w: &mut [u32], l: Sizes, r: StrRef)
-    requires laid { Laid (lay_of l) }
-    requires l_in_bounds { (lay_of l).words ≤ length w.old }
-    ensures { w.new ≡ mark_string (ops (lay_of l)) r w.old }
+pub fn mark_string(w: &mut [u32], l: Plan, r: StrRef)
+    requires l_in_bounds { (lay_of l.sizes).words ≤ length w.old }
+    ensures { w.new ≡ mark_string (ops (lay_of l.sizes)) r w.old }
 {
     let a = layout::strings_of(l);
     if is_white(shade(w, a, r.0, r.1)) {
@@ -75,10 +65,9 @@ pub fn mark_string(w: &mut [u32], l: Sizes, r: StrRef)
     }
 }
 
-pub fn mark_table(w: &mut [u32], l: Sizes, r: TableRef)
-    requires laid { Laid (lay_of l) }
-    requires l_in_bounds { (lay_of l).words ≤ length w.old }
-    ensures { w.new ≡ mark_table (ops (lay_of l)) r w.old }
+pub fn mark_table(w: &mut [u32], l: Plan, r: TableRef)
+    requires l_in_bounds { (lay_of l.sizes).words ≤ length w.old }
+    ensures { w.new ≡ mark_table (ops (lay_of l.sizes)) r w.old }
 {
     mark_gray(
         w,
@@ -90,10 +79,9 @@ pub fn mark_table(w: &mut [u32], l: Sizes, r: TableRef)
     );
 }
 
-pub fn mark_closure(w: &mut [u32], l: Sizes, r: FuncRef)
-    requires laid { Laid (lay_of l) }
-    requires l_in_bounds { (lay_of l).words ≤ length w.old }
-    ensures { w.new ≡ mark_closure (ops (lay_of l)) r w.old }
+pub fn mark_closure(w: &mut [u32], l: Plan, r: FuncRef)
+    requires l_in_bounds { (lay_of l.sizes).words ≤ length w.old }
+    ensures { w.new ≡ mark_closure (ops (lay_of l.sizes)) r w.old }
 {
     mark_gray(
         w,
@@ -105,10 +93,9 @@ pub fn mark_closure(w: &mut [u32], l: Sizes, r: FuncRef)
     );
 }
 
-pub fn mark_thread(w: &mut [u32], l: Sizes, r: ThreadRef)
-    requires laid { Laid (lay_of l) }
-    requires l_in_bounds { (lay_of l).words ≤ length w.old }
-    ensures { w.new ≡ mark_thread (ops (lay_of l)) r w.old }
+pub fn mark_thread(w: &mut [u32], l: Plan, r: ThreadRef)
+    requires l_in_bounds { (lay_of l.sizes).words ≤ length w.old }
+    ensures { w.new ≡ mark_thread (ops (lay_of l.sizes)) r w.old }
 {
     mark_gray(
         w,
@@ -121,23 +108,20 @@ pub fn mark_thread(w: &mut [u32], l: Sizes, r: ThreadRef)
 }
 
 // A table that may be missing.
-pub fn mark_table_or(w: &mut [u32], l: Sizes, t: TableOr)
-    requires laid { Laid (lay_of l) }
-    requires l_in_bounds { (lay_of l).words ≤ length w.old }
-    ensures { w.new ≡ mark_table_or (ops (lay_of l)) t w.old }
+pub fn mark_table_or(w: &mut [u32], l: Plan, t: Option<TableRef>)
+    requires l_in_bounds { (lay_of l.sizes).words ≤ length w.old }
+    ensures { w.new ≡ mark_table_or (ops (lay_of l.sizes)) t w.old }
 {
-    match t {
-        TableOr::Present(r) => mark_table(w, l, r),
-        TableOr::Absent => {}
+    if let Some(r) = t {
+        mark_table(w, l, r);
     }
 }
 
 // The userdata of slot r.0 is black, its metatable and env are marked.
-pub fn follow_userdata(w: &mut [u32], l: Sizes, r: UdRef)
-    requires laid { Laid (lay_of l) }
-    requires l_in_bounds { (lay_of l).words ≤ length w.old }
-    requires r_bound { r.0 < (lay_of l).userdata.slots }
-    ensures { w.new ≡ follow_userdata (ops (lay_of l)) (lay_of l) r w.old }
+pub fn follow_userdata(w: &mut [u32], l: Plan, r: UdRef)
+    requires l_in_bounds { (lay_of l.sizes).words ≤ length w.old }
+    requires r_bound { r.0 < (lay_of l.sizes).userdata.slots }
+    ensures { w.new ≡ follow_userdata (ops (lay_of l.sizes)) (lay_of l.sizes) r w.old }
 {
     let userdata = layout::userdata_of(l);
     let i = base::wide(r.0);
@@ -149,10 +133,9 @@ pub fn follow_userdata(w: &mut [u32], l: Sizes, r: UdRef)
     mark_table_or(w, l, env);
 }
 
-pub fn mark_userdata(w: &mut [u32], l: Sizes, r: UdRef)
-    requires laid { Laid (lay_of l) }
-    requires l_in_bounds { (lay_of l).words ≤ length w.old }
-    ensures { w.new ≡ mark_userdata (ops (lay_of l)) (lay_of l) r w.old }
+pub fn mark_userdata(w: &mut [u32], l: Plan, r: UdRef)
+    requires l_in_bounds { (lay_of l.sizes).words ≤ length w.old }
+    ensures { w.new ≡ mark_userdata (ops (lay_of l.sizes)) (lay_of l.sizes) r w.old }
 {
     if is_white(shade(w, layout::userdata_of(l), r.0, r.1)) {
         follow_userdata(w, l, r);
@@ -161,10 +144,9 @@ pub fn mark_userdata(w: &mut [u32], l: Sizes, r: UdRef)
 
 // What the three words of a value refer to, if it is an object. The marking of stacks, arrays and nodes goes by this one: no
 // value is built from words that are only looked at.
-fn mark_tagged(w: &mut [u32], l: Sizes, tag: u32, low: u32, high: u32)
-    requires laid { Laid (lay_of l) }
-    requires l_in_bounds { (lay_of l).words ≤ length w.old }
-    ensures { w.new ≡ mark_value (ops (lay_of l)) (lay_of l) (value_of tag low high) w.old }
+fn mark_tagged(w: &mut [u32], l: Plan, tag: u32, low: u32, high: u32)
+    requires l_in_bounds { (lay_of l.sizes).words ≤ length w.old }
+    ensures { w.new ≡ mark_value (ops (lay_of l.sizes)) (lay_of l.sizes) (value_of tag low high) w.old }
 {
     match tag {
         4 => mark_string(w, l, StrRef(low, high)),
@@ -176,19 +158,17 @@ fn mark_tagged(w: &mut [u32], l: Sizes, tag: u32, low: u32, high: u32)
     }
 }
 
-pub fn mark_value(w: &mut [u32], l: Sizes, v: Value)
-    requires laid { Laid (lay_of l) }
-    requires l_in_bounds { (lay_of l).words ≤ length w.old }
-    ensures { w.new ≡ mark_value (ops (lay_of l)) (lay_of l) v w.old }
+pub fn mark_value(w: &mut [u32], l: Plan, v: Value)
+    requires l_in_bounds { (lay_of l.sizes).words ≤ length w.old }
+    ensures { w.new ≡ mark_value (ops (lay_of l.sizes)) (lay_of l.sizes) v w.old }
 {
     mark_tagged(w, l, value::tag_of(v), value::low_of(v), value::high_of(v));
 }
 
 // The colour of what a value refers to, 0 where it refers to nothing.
-pub fn value_colour(w: &[u32], l: Sizes, v: Value) -> u32
-    requires laid { Laid (lay_of l) }
-    requires l_in_bounds { (lay_of l).words ≤ length w.now }
-    ensures { result ≡ value_colour (ops (lay_of l)) v w.now }
+pub fn value_colour(w: &[u32], l: Plan, v: Value) -> u32
+    requires l_in_bounds { (lay_of l.sizes).words ≤ length w.now }
+    ensures { result ≡ value_colour (ops (lay_of l.sizes)) v w.now }
 {
     match v {
         Value::Str(r) => shade(w, layout::strings_of(l), r.0, r.1),
@@ -201,11 +181,10 @@ pub fn value_colour(w: &[u32], l: Sizes, v: Value) -> u32
 }
 
 // The value in words p to p + 2.
-pub fn mark_value_at(w: &mut [u32], l: Sizes, p: usize)
-    requires laid { Laid (lay_of l) }
-    requires l_in_bounds { (lay_of l).words ≤ length w.old }
+pub fn mark_value_at(w: &mut [u32], l: Plan, p: usize)
+    requires l_in_bounds { (lay_of l.sizes).words ≤ length w.old }
     requires p_in_bounds { p + 2 < length w.old }
-    ensures { w.new ≡ mark_value_at (ops (lay_of l)) (lay_of l) p w.old }
+    ensures { w.new ≡ mark_value_at (ops (lay_of l.sizes)) (lay_of l.sizes) p w.old }
 {
     let tag = base::get(w, p);
     let low = base::get(w, p + 1);
@@ -215,25 +194,24 @@ pub fn mark_value_at(w: &mut [u32], l: Sizes, p: usize)
 
 // The same. Most values of a table or a stack are no object, or a table that is marked already: these are told here, before a
 // call is made.
-pub fn mark_place(w: &mut [u32], l: Sizes, p: usize)
-    requires laid { Laid (lay_of l) }
-    requires l_in_bounds { (lay_of l).words ≤ length w.old }
+pub fn mark_place(w: &mut [u32], l: Plan, p: usize)
+    requires l_in_bounds { (lay_of l.sizes).words ≤ length w.old }
     requires p_in_bounds { p + 2 < length w.old }
-    ensures { w.new ≡ mark_value_at (ops (lay_of l)) (lay_of l) p w.old }
+    ensures { w.new ≡ mark_value_at (ops (lay_of l.sizes)) (lay_of l.sizes) p w.old }
 {
     let tag = base::get(w, p);
     if tag < 4 {
         return;
     }
-    if tag == 5 {
-        if !is_white(shade(
+    if tag == 5
+        && !is_white(shade(
             w,
             layout::tables_of(l),
             base::get(w, p + 1),
             base::get(w, p + 2),
-        )) {
-            return;
-        }
+        ))
+    {
+        return;
     }
     mark_value_at(w, l, p);
 }
@@ -244,18 +222,14 @@ pub fn is_nil_at(w: &[u32], p: usize) -> bool
     ensures { result ≡ is_nil (value_at w.now p) }
 {
     let tag = base::get(w, p);
-    if tag == 0 {
-        return true;
-    }
-    8 < tag
+    tag == 0 || 8 < tag
 }
 
 // The upvalue of slot r.0 is black; if it is closed, its value is marked.
-fn follow_upvalue(w: &mut [u32], l: Sizes, r: UpvalRef)
-    requires laid { Laid (lay_of l) }
-    requires l_in_bounds { (lay_of l).words ≤ length w.old }
-    requires r_bound { r.0 < (lay_of l).upvalues.slots }
-    ensures { w.new ≡ follow_upvalue (ops (lay_of l)) (lay_of l) r w.old }
+fn follow_upvalue(w: &mut [u32], l: Plan, r: UpvalRef)
+    requires l_in_bounds { (lay_of l.sizes).words ≤ length w.old }
+    requires r_bound { r.0 < (lay_of l.sizes).upvalues.slots }
+    ensures { w.new ≡ follow_upvalue (ops (lay_of l.sizes)) (lay_of l.sizes) r w.old }
 {
     let upvalues = layout::upvalues_of(l);
     let i = base::wide(r.0);
@@ -266,10 +240,9 @@ fn follow_upvalue(w: &mut [u32], l: Sizes, r: UpvalRef)
     }
 }
 
-pub fn mark_upvalue(w: &mut [u32], l: Sizes, r: UpvalRef)
-    requires laid { Laid (lay_of l) }
-    requires l_in_bounds { (lay_of l).words ≤ length w.old }
-    ensures { w.new ≡ mark_upvalue (ops (lay_of l)) (lay_of l) r w.old }
+pub fn mark_upvalue(w: &mut [u32], l: Plan, r: UpvalRef)
+    requires l_in_bounds { (lay_of l.sizes).words ≤ length w.old }
+    ensures { w.new ≡ mark_upvalue (ops (lay_of l.sizes)) (lay_of l.sizes) r w.old }
 {
     if is_white(shade(w, layout::upvalues_of(l), r.0, r.1)) {
         follow_upvalue(w, l, r);
@@ -277,39 +250,32 @@ pub fn mark_upvalue(w: &mut [u32], l: Sizes, r: UpvalRef)
 }
 
 // n values from p on.
-pub fn mark_values(w: &mut [u32], l: Sizes, p: usize, n: usize)
-    requires laid { Laid (lay_of l) }
-    requires l_in_bounds { (lay_of l).words ≤ length w.old }
+pub fn mark_values(w: &mut [u32], l: Plan, p: usize, n: usize)
+    requires l_in_bounds { (lay_of l.sizes).words ≤ length w.old }
     requires n_in_bounds { p + 3 * n ≤ length w.old }
-    ensures { w.new ≡ mark_values (ops (lay_of l)) (lay_of l) p n w.old }
+    ensures { w.new ≡ mark_values (ops (lay_of l.sizes)) (lay_of l.sizes) p n w.old }
 {
-    let mut i: usize = 0;
-    while i < n {
+    for i in 0..n {
         mark_place(w, l, p + 3 * i);
-        i += 1;
     }
 }
 
-fn mark_upvalue_at(w: &mut [u32], l: Sizes, p: usize)
-    requires laid { Laid (lay_of l) }
-    requires l_in_bounds { (lay_of l).words ≤ length w.old }
+fn mark_upvalue_at(w: &mut [u32], l: Plan, p: usize)
+    requires l_in_bounds { (lay_of l.sizes).words ≤ length w.old }
     requires p_in_bounds { p + 1 < length w.old }
-    ensures { w.new ≡ mark_upvalue_at (ops (lay_of l)) (lay_of l) p w.old }
+    ensures { w.new ≡ mark_upvalue_at (ops (lay_of l.sizes)) (lay_of l.sizes) p w.old }
 {
     let r = record::read_upval(w, p);
     mark_upvalue(w, l, r);
 }
 
 // n handles of upvalues from p on.
-pub fn mark_upvalues(w: &mut [u32], l: Sizes, p: usize, n: usize)
-    requires laid { Laid (lay_of l) }
-    requires l_in_bounds { (lay_of l).words ≤ length w.old }
+pub fn mark_upvalues(w: &mut [u32], l: Plan, p: usize, n: usize)
+    requires l_in_bounds { (lay_of l.sizes).words ≤ length w.old }
     requires n_in_bounds { p + 2 * n ≤ length w.old }
-    ensures { w.new ≡ mark_upvalues (ops (lay_of l)) (lay_of l) p n w.old }
+    ensures { w.new ≡ mark_upvalues (ops (lay_of l.sizes)) (lay_of l.sizes) p n w.old }
 {
-    let mut i: usize = 0;
-    while i < n {
+    for i in 0..n {
         mark_upvalue_at(w, l, p + 2 * i);
-        i += 1;
     }
 }

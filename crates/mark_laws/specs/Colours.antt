@@ -5,7 +5,7 @@
 --     shade_past, shade_stale     no colour past the fresh index, none for another generation
 --     named_shade                 a handle names its slot exactly if it has a colour
 --     white_true, white_false, not_white     the whites are 1 and 2
-use Rattle.std.specs.Prelude.{◌≡◌, Bool, List as Words, ◌≢◌, ℕ, zero, suc, ◌+◌, ◌≤◌, ◌<◌}
+use Rattle.std.specs.Prelude.{◌≡◌, Bool, List as Words, ◌≢◌, ℕ, zero, suc, ◌+◌, ◌≤◌, ◌<◌, Some, None}
 use Rattle.std.proofs.Math.Path.{refl, sym}
 use Rattle.std.proofs.Math.Bool.{true, false, cond}
 use Rattle.std.proofs.Common.{true≢false}
@@ -15,7 +15,6 @@ use borrow.Author.Tests.{leb-true, leb-false, eqb-true, eqb-false}
 use Rattle.base.specs.Ways.{if_le, if_eq, le_yes}
 use Rattle.base.specs.Words.{at}
 use Rattle.arena.specs.declared.Arena.{Arena}
-use Rattle.arena.specs.declared.Named.TheVariants.{At, Stale}
 use Rattle.arena.specs.Slots.{used, gen, colour, named}
 use Rattle.mark.specs.Ops.{is_white}
 use Rattle.mark.specs.Words.{shade}
@@ -70,12 +69,12 @@ module _ (a : Arena) (i g : ℕ) (w : Words ℕ) where
       go (suc c) e = absurd (d (shade_parts (omega (arith, e))).1)
 
   -- A handle names the slot exactly if it has a colour.
-  pub named_shade : named a i g w ≡ if_eq (shade a i g w) 0 Stale (At i)
+  pub named_shade : named a i g w ≡ if_eq (shade a i g w) 0 None (Some i)
   unfolding named shade if_le if_eq
   named_shade = go (leb (used a w) i) (eqb (gen a i w) g) (leb (at w (a.base + i)) 4)
     where
-      go : (x y z : Bool) → cond x Stale (cond y (cond (eqb (cond z (at w (a.base + i)) 0) 0) Stale (At i)) Stale)
-          ≡ cond (eqb (cond x 0 (cond y (cond z (at w (a.base + i)) 0) 0)) 0) Stale (At i)
+      go : (x y z : Bool) → cond x None (cond y (cond (eqb (cond z (at w (a.base + i)) 0) 0) None (Some i)) None)
+          ≡ cond (eqb (cond x 0 (cond y (cond z (at w (a.base + i)) 0) 0)) 0) None (Some i)
       go true y z = refl
       go false true z = refl
       go false false z = refl

@@ -4,7 +4,7 @@
 --     table_lighter, closure_light, thread_lighter, item_lighter     the traversals
 --     one_empty, one-less              one step: nothing is gray, or the words are lighter by one
 --     for_empty, all_empty             enough steps leave nothing gray, and all of propagation has enough
-use Rattle.std.specs.Prelude.{◌≡◌, Bool, cond, ◌≢◌, length}
+use Rattle.std.specs.Prelude.{◌≡◌, Bool, cond, ◌≢◌, length, Option}
 use Rattle.std.proofs.Math.Path.{refl, ap}
 use Rattle.std.proofs.Common.{sym, subst, ◌∙◌, inl, arith}
 use Rattle.std.proofs.Math.Bool.{true, false}
@@ -17,7 +17,6 @@ use Rattle.value.specs.declared.ThreadRef.{ThreadRef}
 use Rattle.layout.specs.declared.Lay.{Lay}
 use Rattle.lists.specs.declared.Item.{Item}
 use Rattle.lists.specs.declared.Item.TheVariants.{Table, Function, Userdata, Thread, Main, Unknown}
-use Rattle.lists.specs.declared.Popped.{Popped}
 use Rattle.lists.specs.Lists.{length_of, item_at, push, taken, pop}
 use Rattle.lists.proofs.Laws.{push_kept, pop_none, pop_some, pop_length}
 use Rattle.record.specs.Fields.{body_at}
@@ -149,7 +148,7 @@ module _ (l : Lay) (ok : Laid l) (a : Apart l) where
     pub one_less : l.words ≤ length u → length_of l.gray u ≢ 0 → weight l (propagate_one (ops l) l b u).1 + 1 ≤ weight l u
     one_less long d =
         let v = taken l.gray (length_of l.gray u - 1) u in
-        let e : (pop l.gray u).1 ≡ v = ap (λ (x : Popped × List ℕ). x.1) (pop_some l.gray u d) in
+        let e : (pop l.gray u).1 ≡ v = ap (λ (x : Option Item × List ℕ). x.1) (pop_some l.gray u d) in
         let m : Marked l u v = moves_marked l ok a (popped (still refl) gray (sym e)) long in
         let n : length_of l.gray v ≡ length_of l.gray u - 1 = ap (length_of l.gray) (sym e) ∙ pop_length l.gray u (gray_room_lem l u ok long) in
         let f = item_lighter v (omega (arith, m.long)) b (item_at l.gray (length_of l.gray u - 1) u) in

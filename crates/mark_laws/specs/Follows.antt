@@ -4,17 +4,16 @@
 --     loop_links                        a loop whose turns mark lists marks the lists joined
 --     values_links_lem, upvalues_links      runs of values and of upvalues
 --     userdata_links_lem, upvalue_links_lem     the kinds that are followed at once
-use Rattle.std.specs.Prelude.{◌≡◌, Bool, true, false, List, [], ◌∷◌, eqb, length}
+use Rattle.std.specs.Prelude.{◌≡◌, Bool, true, false, List, [], ◌∷◌, eqb, length, Some, None, Option}
 use Rattle.std.proofs.Math.Path.{refl, sym, ap}
 use Rattle.std.proofs.Common.{◌∙◌, inr}
 use Rattle.std.proofs.Math.Bool.{cond}
 use Prim.Native.Nat.{ℕ, zero, suc, ◌+◌, ◌-◌, ◌*◌, ◌≤◌, ◌<◌}
 use native.Mathlib.Omega.{arith}
 use Rattle.base.specs.Loop.{rounds, run}
+use Rattle.value.specs.declared.TableRef.{TableRef}
 use Rattle.value.specs.declared.UpvalRef.{UpvalRef}
 use Rattle.value.specs.declared.UdRef.{UdRef}
-use Rattle.value.specs.declared.TableOr.{TableOr}
-use Rattle.value.specs.declared.TableOr.TheVariants.{Absent, Present}
 use Rattle.value.specs.declared.Value.{Value}
 use Rattle.value.specs.declared.Value.TheVariants.{Nil, Boolean, Light, Number, Str, Table, Function, Userdata, Thread}
 use Rattle.value.specs.Values.{value_at}
@@ -47,10 +46,10 @@ value_links_lem l (Userdata r) u = refl
 value_links_lem l (Thread r) u = refl
 
 -- A table's handle that may be missing is marked as the link that it gives.
-pub table_link_lem : (l : Lay) (t : TableOr) (u : List ℕ) → mark_table_or (ops l) t u ≡ marks l (table_link t) u
+pub table_link_lem : (l : Lay) (t : Option TableRef) (u : List ℕ) → mark_table_or (ops l) t u ≡ marks l (table_link t) u
 unfolding mark_table_or marks
-table_link_lem l (Present r) u = refl
-table_link_lem l Absent u = refl
+table_link_lem l (Some r) u = refl
+table_link_lem l None u = refl
 
 module _ (l : Lay) (ok : Laid l) (a : Apart l) (w : List ℕ) (long : l.words ≤ length w) where
   abbrev o : Order l
@@ -110,8 +109,8 @@ module _ (l : Lay) (ok : Laid l) (a : Apart l) (w : List ℕ) (long : l.words �
   userdata_links_lem r u m =
       table_link_lem l (ud_env p u) (mark_table_or (ops l) (ud_meta p u) (paint_w l (ud r) 4 u))
       ∙ ap (marks l (table_link (ud_env p u))) (table_link_lem l (ud_meta p u) (paint_w l (ud r) 4 u))
-      ∙ ap (λ (t : TableOr). marks l (table_link t) (marks l (table_link (ud_meta p u)) (paint_w l (ud r) 4 u))) (table_stays o m (p + 2) (inr (omega (arith, o.past_userdata))))
-      ∙ ap (λ (t : TableOr). marks l (table_link (ud_env p w)) (marks l (table_link t) (paint_w l (ud r) 4 u))) (table_stays o m p (inr (omega (arith, o.past_userdata))))
+      ∙ ap (λ (t : Option TableRef). marks l (table_link t) (marks l (table_link (ud_meta p u)) (paint_w l (ud r) 4 u))) (table_stays o m (p + 2) (inr (omega (arith, o.past_userdata))))
+      ∙ ap (λ (t : Option TableRef). marks l (table_link (ud_env p w)) (marks l (table_link t) (paint_w l (ud r) 4 u))) (table_stays o m p (inr (omega (arith, o.past_userdata))))
       ∙ sym (marks_append l (table_link (ud_meta p w)) (table_link (ud_env p w)) (paint_w l (ud r) 4 u))
     where
       p : ℕ

@@ -3,7 +3,7 @@
 --     push_counts        a push adds one at most, and only of its item's kind
 --     pop_counts         a pop takes one of its item's kind
 --     item_kind_lem          the kind of an item that is known is the word that it is read from
-use Rattle.std.specs.Prelude.{◌≡◌, refl, Bool, true, false, cond, List as Words, ◌≢◌, ℕ, zero, suc, min, ◌+◌, ◌-◌, ◌*◌, ◌≤◌, ◌<◌, eqb}
+use Rattle.std.specs.Prelude.{◌≡◌, refl, Bool, true, false, cond, List as Words, ◌≢◌, ℕ, zero, suc, min, ◌+◌, ◌-◌, ◌*◌, ◌≤◌, ◌<◌, eqb, Option}
 use Rattle.std.proofs.Common.{sym, ap, ◌∙◌, inl, arith, eqb-true}
 use Rattle.std.proofs.Math.Decide.{dec_lt}
 use Rattle.std.proofs.Math.Seq.{get_or-set_other}
@@ -13,7 +13,6 @@ use Rattle.value.specs.Laws.{put3_first}
 use Rattle.layout.specs.declared.List.{List}
 use Rattle.lists.specs.declared.Item.{Item}
 use Rattle.lists.specs.declared.Item.TheVariants.{Table, Function, Userdata, Thread, Main, Unknown}
-use Rattle.lists.specs.declared.Popped.{Popped}
 use Rattle.lists.specs.Lists.{damage, RoomFor, kind_of, index_of, generation_of, item_of, put_item, length_of, place, stored, push, taken}
 use Rattle.lists.specs.Laws.{Apart}
 use Rattle.lists.proofs.Laws.{stored_kept, push_stored, push_full, push_length, push_full_length, taken_kept, pop_some, pop_length}
@@ -107,7 +106,7 @@ module _ (b : List) (c : ℕ) (w : Words ℕ) (ok : RoomFor b w) where
       before : items_of b c (taken b (length_of b w - 1) w) ≡ items_to b c (length_of b w - 1) (taken b (length_of b w - 1) w)
       before =
           ap (λ (k : ℕ). items_to b c k (taken b (length_of b w - 1) w))
-          (ap (λ (r : Popped × Words ℕ). length_of b r.1) (sym (pop_some b w d)) ∙ pop_length b w ok)
+          (ap (λ (r : Option Item × Words ℕ). length_of b r.1) (sym (pop_some b w d)) ∙ pop_length b w ok)
 
       same : items_to b c (length_of b w - 1) (taken b (length_of b w - 1) w) ≡ items_to b c (length_of b w - 1) w
       same =

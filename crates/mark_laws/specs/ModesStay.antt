@@ -2,23 +2,17 @@
 --     size_stays, nodes_stay, key_stays, node_value_stays     the parts of a table's record
 --     look_stays, field_stays       a name looked up in a table
 --     weak_mode_stays, gc_method_stays     the mode, and the finalizer, that a metatable gives
-use Rattle.std.specs.Prelude.{◌≡◌, List as Words}
+use Rattle.std.specs.Prelude.{◌≡◌, List as Words, Some, None, Option}
 use Rattle.std.proofs.Math.Path.{refl, ap}
 use Rattle.std.proofs.Common.{◌∙◌, inl, inr, arith}
 use Rattle.std.proofs.Math.Bool.{cond}
 use Prim.Native.Nat.{ℕ, zero, suc, ◌+◌, ◌*◌, ◌≤◌}
 use Rattle.base.specs.Words.{bounded}
-use Rattle.arena.specs.declared.Named.{Named}
-use Rattle.arena.specs.declared.Named.TheVariants.{At, Stale}
 use Rattle.arena.specs.Slots.{named}
 use Rattle.value.specs.declared.Value.{Value}
 use Rattle.value.specs.declared.Value.TheVariants.{Nil, Boolean, Light, Number, Str, Table, Function, Userdata, Thread}
 use Rattle.value.specs.declared.StrRef.{StrRef}
 use Rattle.value.specs.declared.TableRef.{TableRef}
-use Rattle.value.specs.declared.StrOr.{StrOr}
-use Rattle.value.specs.declared.StrOr.TheVariants.{Absent as NoStr, Present as SomeStr}
-use Rattle.value.specs.declared.TableOr.{TableOr}
-use Rattle.value.specs.declared.TableOr.TheVariants.{Absent as NoTable, Present as SomeTable}
 use Rattle.value.specs.Values.{key_equal, value_at}
 use Rattle.layout.specs.declared.Lay.{Lay}
 use Rattle.layout.specs.Places.{NAME_MODE, NAME_GC}
@@ -63,27 +57,27 @@ module _ {l : Lay} (o : Order l) {w u : Words ℕ} (m : Marked l w u) where
   unfolding field_named
   field_named_stays t s = ap (field_at l s u) (named_stays o m 1 t.0 t.1) ∙ go (named l.tables t.0 t.1 w)
     where
-      go : (n : Named) → field_at l s u n ≡ field_at l s w n
-      go (At i) =
+      go : (n : Option ℕ) → field_at l s u n ≡ field_at l s w n
+      go (Some i) =
           let h : l.boundary ≤ body_at l.tables i = omega (arith, o.past_tables) in
           ap (λ (n : ℕ). look_from n 0 (body_at l.tables i) s u) (nodes_stay (body_at l.tables i) h)
           ∙ look_stays (body_at l.tables i) h (node_count (body_at l.tables i) w) 0 s
-      go Stale = refl
+      go None = refl
 
   -- A field of a table stays.
-  pub field_stays : (t : TableRef) (s : StrOr) → field l t s u ≡ field l t s w
+  pub field_stays : (t : TableRef) (s : Option StrRef) → field l t s u ≡ field l t s w
   unfolding field
-  field_stays t (SomeStr s) = field_named_stays t s
-  field_stays t NoStr = refl
+  field_stays t (Some s) = field_named_stays t s
+  field_stays t None = refl
 
   module _ (b : Words ℕ) where
     string_mode_stays : (s : StrRef) → mode_of_string l s u b ≡ mode_of_string l s w b
     unfolding mode_of_string
     string_mode_stays s = ap (mode_of_slot l u b) (named_stays o m 0 s.0 s.1) ∙ go (named l.strings s.0 s.1 w)
       where
-        go : (n : Named) → mode_of_slot l u b n ≡ mode_of_slot l w b n
-        go (At i) = ap (λ (x : ℕ). mode_of_text (text_of i (bounded x 64) b)) (below o m (body_at l.strings i) (inr (omega (arith, o.past_strings))))
-        go Stale = refl
+        go : (n : Option ℕ) → mode_of_slot l u b n ≡ mode_of_slot l w b n
+        go (Some i) = ap (λ (x : ℕ). mode_of_text (text_of i (bounded x 64) b)) (below o m (body_at l.strings i) (inr (omega (arith, o.past_strings))))
+        go None = refl
 
     value_mode_stays : (v : Value) → mode_of_value l v u b ≡ mode_of_value l v w b
     unfolding mode_of_value
@@ -98,18 +92,18 @@ module _ {l : Lay} (o : Order l) {w u : Words ℕ} (m : Marked l w u) where
     value_mode_stays (Thread r) = refl
 
     -- Marking leaves the mode that a metatable gives.
-    pub weak_mode_stays : (t : TableOr) → weak_mode l t u b ≡ weak_mode l t w b
+    pub weak_mode_stays : (t : Option TableRef) → weak_mode l t u b ≡ weak_mode l t w b
     unfolding weak_mode
-    weak_mode_stays NoTable = refl
-    weak_mode_stays (SomeTable t) =
-        ap (λ (s : StrOr). mode_of_value l (field l t s u) u b) (str_stays o m NAME_MODE (inl (omega arith)))
+    weak_mode_stays None = refl
+    weak_mode_stays (Some t) =
+        ap (λ (s : Option StrRef). mode_of_value l (field l t s u) u b) (str_stays o m NAME_MODE (inl (omega arith)))
         ∙ ap (λ (v : Value). mode_of_value l v u b) (field_stays t (mode_name w))
         ∙ value_mode_stays (field l t (mode_name w) w)
 
   -- Marking leaves the finalizer that a metatable gives.
-  pub gc_method_stays : (t : TableOr) → gc_method l t u ≡ gc_method l t w
+  pub gc_method_stays : (t : Option TableRef) → gc_method l t u ≡ gc_method l t w
   unfolding gc_method
-  gc_method_stays NoTable = refl
-  gc_method_stays (SomeTable t) =
-      ap (λ (s : StrOr). field l t s u) (str_stays o m NAME_GC (inl (omega arith)))
+  gc_method_stays None = refl
+  gc_method_stays (Some t) =
+      ap (λ (s : Option StrRef). field l t s u) (str_stays o m NAME_GC (inl (omega arith)))
       ∙ field_stays t (gc_name w)

@@ -2,7 +2,7 @@
 --     Rising, Moves, moves_then     a colour that rises; the moves; one after the other
 --     string_moves, table_moves, closure_moves, thread_moves, table_or_moves, userdata_follows, userdata_moves, value_moves,
 --     value_at_moves, upvalue_follows, upvalue_moves, values_move, upvalues_move     each definition of marking
-use Rattle.std.specs.Prelude.{◌≡◌, Bool, cond, ℕ, ◌+◌, ◌*◌, ◌≤◌}
+use Rattle.std.specs.Prelude.{◌≡◌, Bool, cond, ℕ, ◌+◌, ◌*◌, ◌≤◌, Some, None, Option}
 use Rattle.std.proofs.Math.Path.{refl}
 use Rattle.std.proofs.Common.{sym, subst, arith}
 use Rattle.std.proofs.Math.Bool.{true, false}
@@ -14,8 +14,6 @@ use Rattle.value.specs.declared.FuncRef.{FuncRef}
 use Rattle.value.specs.declared.UpvalRef.{UpvalRef}
 use Rattle.value.specs.declared.UdRef.{UdRef}
 use Rattle.value.specs.declared.ThreadRef.{ThreadRef}
-use Rattle.value.specs.declared.TableOr.{TableOr}
-use Rattle.value.specs.declared.TableOr.TheVariants.{Absent, Present}
 use Rattle.value.specs.declared.Value.{Value}
 use Rattle.value.specs.declared.Value.TheVariants.{Nil, Boolean, Light, Number, Str, Table, Function, Userdata, Thread}
 use Rattle.value.specs.Values.{value_at}
@@ -91,10 +89,10 @@ module _ (l : Lay) {w : Words ℕ} where
   thread_moves r m = gray_moves (thread r) (item.Thread r) m
 
   -- Marking a table that may be missing is moves.
-  pub table_or_moves : (t : TableOr) {u : Words ℕ} → Moves l w u → Moves l w (mark_table_or (ops l) t u)
+  pub table_or_moves : (t : Option TableRef) {u : Words ℕ} → Moves l w u → Moves l w (mark_table_or (ops l) t u)
   unfolding mark_table_or
-  table_or_moves (Present r) m = table_moves r m
-  table_or_moves Absent m = m
+  table_or_moves (Some r) m = table_moves r m
+  table_or_moves None m = m
 
   -- A handle that names an occupied slot is painted black.
   pub paint_moves : (r : Ref) {u : Words ℕ} → 1 ≤ colour_w l r u → Moves l w u → Moves l w (paint_w l r 4 u)

@@ -1,7 +1,7 @@
 -- Propagation is moves, whatever the lists hold: so all that is proved of moves holds of any number of steps. Assumes nothing.
 --     table_whole, closure_whole, thread_whole, again_whole     a traversal by handle; one that names nothing changes nothing
 --     item_moves, one_moves, for_moves, all_moves     an item, one step, n steps, all of it
-use Rattle.std.specs.Prelude.{◌≡◌, Bool, cond, length}
+use Rattle.std.specs.Prelude.{◌≡◌, Bool, cond, length, Some, None, Option}
 use Rattle.std.proofs.Math.Path.{refl}
 use Rattle.std.proofs.Common.{subst, arith}
 use Rattle.std.proofs.Math.Bool.{true, false}
@@ -15,8 +15,6 @@ use Rattle.value.specs.declared.ThreadRef.{ThreadRef}
 use Rattle.layout.specs.declared.Lay.{Lay}
 use Rattle.lists.specs.declared.Item.{Item}
 use Rattle.lists.specs.declared.Item.TheVariants.{Table, Function, Userdata, Thread, Main, Unknown}
-use Rattle.lists.specs.declared.Popped.{Popped}
-use Rattle.lists.specs.declared.Popped.TheVariants.{Nothing, Got}
 use Rattle.lists.specs.Lists.{pop}
 use Rattle.record.specs.Fields.{body_at}
 use Rattle.laid.specs.Laid.{Laid}
@@ -85,9 +83,9 @@ module _ (l : Lay) (ok : Laid l) (a : Apart l) where
   unfolding propagate_one
   one_moves b u long = go (pop l.gray u).0 (pop l.gray u).1 (popped (still refl) gray refl)
     where
-      go : (p : Popped) (v : List ℕ) → Moves l u v → Moves l u (propagate_popped (ops l) l b (p, v)).1
-      go (Got x) v m = moves_then m (item_moves v (omega (arith, (moves_marked l ok a m long).long)) b x)
-      go Nothing v m = m
+      go : (p : Option Item) (v : List ℕ) → Moves l u v → Moves l u (propagate_popped (ops l) l b (p, v)).1
+      go (Some x) v m = moves_then m (item_moves v (omega (arith, (moves_marked l ok a m long).long)) b x)
+      go None v m = m
 
   -- n steps at most,
   pub for_moves : (b : List ℕ) (n : ℕ) (u : List ℕ) → l.words ≤ length u → Moves l u (propagate_for (ops l) l b n u)

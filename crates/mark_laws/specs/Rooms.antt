@@ -2,7 +2,7 @@
 --     Roomy              each sum is at most the room of its list
 --     item_spends, some_spends     what is done with an item; taking it off the gray list and doing it takes no room
 --     one_spends, for_spends, spends_roomy, all_roomy     a step, n steps, all of propagation: within the rooms, and no damage
-use Rattle.std.specs.Prelude.{◌≡◌, refl, Bool, cond, ◌≢◌, eqb, length}
+use Rattle.std.specs.Prelude.{◌≡◌, refl, Bool, cond, ◌≢◌, eqb, length, Option}
 use Rattle.std.proofs.Common.{sym, ap, subst, ◌∙◌, inl, arith, eqb-true, eq-eqb}
 use Rattle.std.proofs.Math.Bool.{true, false}
 use mathlib.Core.List.{List}
@@ -12,13 +12,12 @@ use Rattle.base.specs.Words.{at}
 use Rattle.layout.specs.declared.Lay.{Lay}
 use Rattle.lists.specs.declared.Item.{Item}
 use Rattle.lists.specs.declared.Item.TheVariants.{Table, Function, Userdata, Thread, Main, Unknown}
-use Rattle.lists.specs.declared.Popped.{Popped}
 use Rattle.lists.specs.Lists.{damage, kind_of, item_in, length_of, place, item_at, taken, pop}
 use Rattle.lists.proofs.Laws.{item_found, pop_some, pop_length, pop_kept}
 use Rattle.lists.specs.Laws as lists
 use Rattle.record.specs.Fields.{body_at}
 use Rattle.laid.specs.Laid.{Laid, gray_room_lem}
-use Rattle.mark.specs.Ops.{tab, fun, thread, gray, grayagain, weak}
+use Rattle.mark.specs.Ops.{tab, fun, thread, gray, weak}
 use Rattle.mark.specs.Words.{colour_w, ops}
 use Rattle.table_walk.specs.Tables.{table_cost, traverse_table_at, traverse_table}
 use Rattle.run_walk.specs.Closures.{closure_cost, traverse_closure_at, traverse_closure}
@@ -71,7 +70,7 @@ module _ (l : Lay) (ok : Laid l) (a : Apart l) where
     rest = taken l.gray (length_of l.gray u - 1) u
 
     rest_is : (pop l.gray u).1 ≡ rest
-    rest_is = ap (λ (x : Popped × List ℕ). x.1) (pop_some l.gray u d)
+    rest_is = ap (λ (x : Option Item × List ℕ). x.1) (pop_some l.gray u d)
 
     rest_marked : Marked l u rest
     rest_marked = moves_marked l ok a (popped (still refl) gray (sym rest_is)) long

@@ -2,14 +2,13 @@
 -- Assumes nothing.
 --     cleared_moves                the lists are emptied before, which is moves
 --     types_links, roots_links, roots_moves     the main thread is listed, and the other roots are marked; that is moves
-use Rattle.std.specs.Prelude.{◌≡◌, refl, length}
+use Rattle.std.specs.Prelude.{◌≡◌, refl, length, Some, None, Option}
 use Rattle.std.proofs.Math.Path.{sym, ap}
 use Rattle.std.proofs.Common.{subst, ◌∙◌, inl, arith}
 use mathlib.Core.List.{List, ◌++◌}
 use Prim.Native.Nat.{ℕ, ◌+◌, ◌*◌, ◌≤◌}
-use Rattle.value.specs.declared.StrOr.{StrOr}
-use Rattle.value.specs.declared.StrOr.TheVariants.{Absent, Present}
-use Rattle.value.specs.declared.TableOr.{TableOr}
+use Rattle.value.specs.declared.StrRef.{StrRef}
+use Rattle.value.specs.declared.TableRef.{TableRef}
 use Rattle.value.specs.Handles.{table_or_at}
 use Rattle.layout.specs.declared.Lay.{Lay}
 use Rattle.layout.specs.Places.{GLOBAL, REGISTRY, NAME_MODE, NAME_GC, METATABLES}
@@ -35,10 +34,10 @@ unfolding clear_lists
 cleared_moves l m = emptied (emptied (emptied m gray refl) grayagain refl) weak refl
 
 -- a string's handle that may be missing
-pub string_link_lem : (l : Lay) (s : StrOr) (u : List ℕ) → mark_string_or (ops l) s u ≡ marks l (string_link s) u
+pub string_link_lem : (l : Lay) (s : Option StrRef) (u : List ℕ) → mark_string_or (ops l) s u ≡ marks l (string_link s) u
 unfolding mark_string_or marks
-string_link_lem l (Present r) u = refl
-string_link_lem l Absent u = refl
+string_link_lem l (Some r) u = refl
+string_link_lem l None u = refl
 
 module _ (l : Lay) (ok : Laid l) (a : Apart l) (w : List ℕ) (long : l.words ≤ length w) where
   abbrev o : Order l
@@ -49,7 +48,7 @@ module _ (l : Lay) (ok : Laid l) (a : Apart l) (w : List ℕ) (long : l.words �
   unfolding mark_types mark_type
   types_links u m =
       loop_links l ok a w long (mark_type (ops l)) (λ k. table_link (type_meta k w)) 9
-      (λ k f t n. table_link_lem l (type_meta k t) t ∙ ap (λ (x : TableOr). marks l (table_link x) t) (table_stays o n (METATABLES + 2 * k) (inl (omega arith))))
+      (λ k f t n. table_link_lem l (type_meta k t) t ∙ ap (λ (x : Option TableRef). marks l (table_link x) t) (table_stays o n (METATABLES + 2 * k) (inl (omega arith))))
       u m
 
   -- The main thread is listed; global, registry, type metatables and both names are marked.
@@ -73,9 +72,9 @@ module _ (l : Lay) (ok : Laid l) (a : Apart l) (w : List ℕ) (long : l.words �
     unfolding mark_gc_roots
     gc_roots {t} n =
         ap (λ (x : List ℕ). last (second x)) (types_links t n)
-        ∙ ap last (string_link_lem l (mode_name c) c ∙ ap (λ (s : StrOr). marks l (string_link s) c) (str_stays o nc NAME_MODE (inl (omega arith))))
+        ∙ ap last (string_link_lem l (mode_name c) c ∙ ap (λ (s : Option StrRef). marks l (string_link s) c) (str_stays o nc NAME_MODE (inl (omega arith))))
         ∙ string_link_lem l (gc_name d) d
-        ∙ ap (λ (s : StrOr). marks l (string_link s) d) (str_stays o nd NAME_GC (inl (omega arith)))
+        ∙ ap (λ (s : Option StrRef). marks l (string_link s) d) (str_stays o nd NAME_GC (inl (omega arith)))
       where
         c : List ℕ
         c = marks l (each (λ k. table_link (type_meta k w)) 9 0) t
@@ -102,7 +101,7 @@ module _ (l : Lay) (ok : Laid l) (a : Apart l) (w : List ℕ) (long : l.words �
     listed_marked = marked_then m (moves_marked l ok a (pushed (still refl) gray Main refl) (omega (arith, m.long)))
 
     table_stage : (q : ℕ) → q + 2 ≤ 52 → (t : List ℕ) → Marked l w t → mark_table_or (ops l) (table_or_at t q) t ≡ marks l (table_link (table_or_at w q)) t
-    table_stage q h t n = table_link_lem l (table_or_at t q) t ∙ ap (λ (x : TableOr). marks l (table_link x) t) (table_stays o n q (inl h))
+    table_stage q h t n = table_link_lem l (table_or_at t q) t ∙ ap (λ (x : Option TableRef). marks l (table_link x) t) (table_stays o n q (inl h))
 
     -- Marking the roots marks exactly their links.
     pub roots_links : mark_roots (ops l) u ≡ marks l (root_links w l) (push l.gray Main u)

@@ -3,16 +3,16 @@
 --     closure_links_lem, closure_traversed      a closure is painted, its links are marked; that is moves
 --     thread_links_lem, thread_traversed        a thread is painted, its links are marked, and it is listed in grayagain
 --     again_links, again_traversed          the atomic phase marks them once more, but for the hook function
-use Rattle.std.specs.Prelude.{◌≡◌, refl, Bool, true, false, eqb, length}
+use Rattle.std.specs.Prelude.{◌≡◌, refl, Bool, true, false, eqb, length, Option}
 use Rattle.std.proofs.Math.Path.{sym, ap}
 use Rattle.std.proofs.Common.{subst, ◌∙◌, inr, arith}
 use Rattle.std.proofs.Math.Bool.{cond}
 use mathlib.Core.List.{List, [], ◌∷◌, ◌++◌}
 use Prim.Native.Nat.{ℕ, min, ◌+◌, ◌≤◌}
 use Rattle.base.specs.Words.{at, bounded}
+use Rattle.value.specs.declared.TableRef.{TableRef}
 use Rattle.value.specs.declared.FuncRef.{FuncRef}
 use Rattle.value.specs.declared.ThreadRef.{ThreadRef}
-use Rattle.value.specs.declared.TableOr.{TableOr}
 use Rattle.layout.specs.declared.Lay.{Lay}
 use Rattle.lists.specs.declared.Item.TheVariants.{Thread}
 use Rattle.lists.specs.Lists.{push}
@@ -104,7 +104,7 @@ module _ (l : Lay) (ok : Laid l) (a : Apart l) (w : List ℕ) (long : l.words �
     pub closure_links_lem : traverse_closure_at (ops l) l r u ≡ marks l (closure_links w l (body_at l.functions r.0)) (paint_w l (fun r) 4 u)
     unfolding traverse_closure_at closure_links
     closure_links_lem =
-        ap (λ (t : TableOr). rest (mark_table_or (ops l) t (paint_w l (fun r) 4 u))) (table_stays o m (closure_body + 1) (inr (omega (arith, o.past_functions))))
+        ap (λ (t : Option TableRef). rest (mark_table_or (ops l) t (paint_w l (fun r) 4 u))) (table_stays o m (closure_body + 1) (inr (omega (arith, o.past_functions))))
         ∙ ap rest (table_link_lem l (closure_env closure_body w) (paint_w l (fun r) 4 u))
         ∙ ap (λ (x : ℕ). cond (eqb x 1) (mark_rust (ops l) l closure_body v) (mark_lua (ops l) l closure_body v)) (word closure_body (omega (arith, o.past_functions)) n)
         ∙ go (is_rust closure_body w)
@@ -146,7 +146,7 @@ module _ (l : Lay) (ok : Laid l) (a : Apart l) (w : List ℕ) (long : l.words �
     global_is : mark_table_or (ops l) (thread_global thread_body u) painted ≡ marks l (table_link (thread_global thread_body w)) painted
     global_is =
         table_link_lem l (thread_global thread_body u) painted
-        ∙ ap (λ (t : TableOr). marks l (table_link t) painted) (table_stays o m thread_body (inr (omega (arith, o.past_threads))))
+        ∙ ap (λ (t : Option TableRef). marks l (table_link t) painted) (table_stays o m thread_body (inr (omega (arith, o.past_threads))))
 
     -- Its traversal marks exactly its links, and lists it.
     pub thread_links_lem : traverse_thread_at (ops l) l r u ≡ push l.grayagain (Thread r) (marks l (thread_links w (body_at l.threads r.0)) (paint_w l (thread r) 4 u))

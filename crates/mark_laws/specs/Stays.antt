@@ -4,13 +4,12 @@
 --     head_stays, fresh_stays, count_stays, gen_stays, link_stays, extent_stays     the arenas, but for their colours
 --     colour_rises, free_stays, never_falls, marked_stays     colours stay or rise
 --     named_stays                           the handles that name a slot
-use Rattle.std.specs.Prelude.{◌≡◌, refl, false, List as Words, ◌⊎◌, ℕ, zero, suc, ◌+◌, ◌-◌, ◌*◌, ◌≤◌, ◌<◌, drop}
+use Rattle.std.specs.Prelude.{◌≡◌, refl, false, List as Words, ◌⊎◌, ℕ, zero, suc, ◌+◌, ◌-◌, ◌*◌, ◌≤◌, ◌<◌, drop, Some, None}
 use Rattle.std.proofs.Common.{sym, ap, ◌∙◌, inl, inr, arith, length-drop, get_or-drop, ext_get_or}
 use Rattle.std.proofs.Math.Decide.{dec_lt, ℕ_discrete}
 use Rattle.base.specs.Ways.{if_eq, eq_no}
 use Rattle.base.specs.Words.{at}
 use Rattle.arena.specs.declared.Arena.{Arena}
-use Rattle.arena.specs.declared.Named.TheVariants.{At, Stale}
 use Rattle.arena.specs.Slots.{head, fresh, count, gen, link, extent, used, named}
 use Rattle.value.specs.Values.{value_at}
 use Rattle.value.specs.Handles.{handle_at, table_or_at, str_or_at}
@@ -176,8 +175,8 @@ module _ {l : Lay} (o : Order l) {w u : Words ℕ} (m : Marked l w u) where
   named_stays k i g = named_shade (arena_of l k) i g u ∙ go (colour_rises (ref k i g)) ∙ sym (named_shade (arena_of l k) i g w)
     where
       go : Up (shade (arena_of l k) i g w) (shade (arena_of l k) i g u)
-          → if_eq (shade (arena_of l k) i g u) 0 Stale (At i) ≡ if_eq (shade (arena_of l k) i g w) 0 Stale (At i)
-      go (inl p) = ap (λ (c : ℕ). if_eq c 0 Stale (At i)) p
+          → if_eq (shade (arena_of l k) i g u) 0 None (Some i) ≡ if_eq (shade (arena_of l k) i g w) 0 None (Some i)
+      go (inl p) = ap (λ (c : ℕ). if_eq c 0 None (Some i)) p
       go (inr p) =
-          sym (eq_no (shade (arena_of l k) i g u) 0 Stale (At i) (At i) (λ z. omega (arith, z, p.2)) refl)
-          ∙ eq_no (shade (arena_of l k) i g w) 0 Stale (At i) (At i) (λ z. omega (arith, z, p.0)) refl
+          sym (eq_no (shade (arena_of l k) i g u) 0 None (Some i) (Some i) (λ z. omega (arith, z, p.2)) refl)
+          ∙ eq_no (shade (arena_of l k) i g w) 0 None (Some i) (Some i) (λ z. omega (arith, z, p.0)) refl

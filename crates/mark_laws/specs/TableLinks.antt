@@ -6,12 +6,11 @@
 --     table_traversed      traversing it is moves
 use Rattle.std.proofs.Math.Path.{◌≡◌, refl, sym, ap}
 use Rattle.std.proofs.Common.{subst, ◌∙◌, true≢false, inr, arith}
-use Rattle.std.specs.Prelude.{Bool, length}
+use Rattle.std.specs.Prelude.{Bool, length, Option}
 use Rattle.std.proofs.Math.Bool.{true, false, cond}
 use mathlib.Core.List.{List, [], ◌++◌}
 use Prim.Native.Nat.{ℕ, zero, suc, ◌+◌, ◌*◌, ◌≤◌}
 use Rattle.value.specs.declared.TableRef.{TableRef}
-use Rattle.value.specs.declared.TableOr.{TableOr}
 use Rattle.value.specs.declared.Value.{Value}
 use Rattle.value.specs.Values.{is_nil, value_at}
 use Rattle.layout.specs.declared.Lay.{Lay}
@@ -176,12 +175,12 @@ module _ (l : Lay) (ok : Laid l) (a : Apart l) (w : List ℕ) (long : l.words �
         (paint_w l (tab r) 4 u)))
     unfolding traverse_table_at
     table_links_lem =
-        ap (λ (t : TableOr). whole t (weak_mode l t u b)) (table_stays o m place (inr (omega (arith, o.past_tables))))
+        ap (λ (t : Option TableRef). whole t (weak_mode l t u b)) (table_stays o m place (inr (omega (arith, o.past_tables))))
         ∙ ap (whole (table_meta place w)) (weak_mode_stays o m b (table_meta place w))
         ∙ ap (λ (x : List ℕ). mark_entries (ops l) l mode place (list_weak (ops l) mode r x)) (table_link_lem l (table_meta place w) (paint_w l (tab r) 4 u))
         ∙ entries_links mode place (omega (arith, o.past_tables)) (marked_then m (moves_marked l ok a listed_moves (omega (arith, m.long))))
       where
-        whole : TableOr → Mode → List ℕ
+        whole : Option TableRef → Mode → List ℕ
         whole t d = mark_entries (ops l) l d (body_at l.tables r.0) (list_weak (ops l) d r (mark_table_or (ops l) t (paint_w l (tab r) 4 u)))
 
     -- So the traversal is moves.

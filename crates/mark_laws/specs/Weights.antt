@@ -4,16 +4,15 @@
 --     weight, weight_most, supply     the weight; what it is at most, whatever the words hold; the part of one kind
 --     Lighter, Clean              marked and no heavier; and all that is said above
 --     string_clean, table_clean, closure_clean, thread_clean, userdata_clean, value_clean, upvalue_clean, marks_clean
-use Rattle.std.specs.Prelude.{◌≡◌, Bool, true, false, cond, ◌≢◌, eqb, length}
+use Rattle.std.specs.Prelude.{◌≡◌, Bool, true, false, cond, ◌≢◌, eqb, length, Some, None, Option}
 use Rattle.std.proofs.Math.Path.{refl}
 use Rattle.std.proofs.Common.{sym, ap, subst, ◌∙◌, inl, arith, get_or-set_other, eqb-true}
 use mathlib.Core.List.{List, [], ◌∷◌}
 use Prim.Native.Nat.{ℕ, zero, suc, min, ◌+◌, ◌≤◌, ◌<◌}
 use Rattle.std.proofs.Math.Decide.{dec_lt}
 use Rattle.base.specs.Words.{at}
+use Rattle.value.specs.declared.TableRef.{TableRef}
 use Rattle.arena.specs.Slots.{used, gen}
-use Rattle.value.specs.declared.TableOr.{TableOr}
-use Rattle.value.specs.declared.TableOr.TheVariants.{Absent, Present}
 use Rattle.value.specs.declared.Value.{Value}
 use Rattle.value.specs.declared.Value.TheVariants.{Nil, Boolean, Light, Number, Str, Table, Function, Userdata, Thread}
 use Rattle.layout.specs.declared.Lay.{Lay}
@@ -255,10 +254,10 @@ module _ (l : Lay) (ok : Laid l) (a : Apart l) where
     thread_clean = gray_if (ref 5 i g) (item.Thread (record { 0 = i; 1 = g })) w long tt (λ e. absurd (let z : ⊥ = omega (arith, e) in z)) (λ e. refl)
 
   -- a table that may be missing
-  pub table_or_clean : (t : TableOr) (w : List ℕ) → l.words ≤ length w → Clean l w (marks l (table_link t) w)
+  pub table_or_clean : (t : Option TableRef) (w : List ℕ) → l.words ≤ length w → Clean l w (marks l (table_link t) w)
   unfolding marks
-  table_or_clean (Present r) w long = table_clean r.0 r.1 w long
-  table_or_clean Absent w long = clean_none
+  table_or_clean (Some r) w long = table_clean r.0 r.1 w long
+  table_or_clean None w long = clean_none
 
   -- A userdata is painted, and its two tables are marked.
   pub userdata_clean : (i g : ℕ) (w : List ℕ) → l.words ≤ length w → Clean l w (mark_ref l (ref 4 i g) w)

@@ -1,21 +1,15 @@
 -- Document 01, 'Followed links': a key is looked up in node order, by handle. A table's mode comes from its metatable's
 -- `__mode` value, if that is a string: `k` in it means weak keys, `v` weak values. Assumes nothing.
-use Rattle.std.specs.Prelude.{◌≡◌, Bool, true, false, cond, List}
+use Rattle.std.specs.Prelude.{◌≡◌, Bool, true, false, cond, List, Some, None, Option}
 use Rattle.std.proofs.Math.Path.{ap}
 use Rattle.std.proofs.Common.{◌∙◌}
 use Prim.Native.Nat.{ℕ, zero, suc, ◌+◌, ◌-◌, ◌≤◌, ◌<◌}
 use native.Mathlib.Omega.{arith}
-use Rattle.arena.specs.declared.Named.{Named}
-use Rattle.arena.specs.declared.Named.TheVariants.{At, Stale}
 use Rattle.arena.specs.Slots.{named}
 use Rattle.value.specs.declared.Value.{Value}
 use Rattle.value.specs.declared.Value.TheVariants.{Nil, Boolean, Light, Number, Str, Table, Function, Userdata, Thread}
 use Rattle.value.specs.declared.StrRef.{StrRef}
 use Rattle.value.specs.declared.TableRef.{TableRef}
-use Rattle.value.specs.declared.StrOr.{StrOr}
-use Rattle.value.specs.declared.StrOr.TheVariants.{Absent as NoStr, Present as SomeStr}
-use Rattle.value.specs.declared.TableOr.{TableOr}
-use Rattle.value.specs.declared.TableOr.TheVariants.{Absent as NoTable, Present as SomeTable}
 use Rattle.value.specs.Values.{key_equal}
 use Rattle.layout.specs.declared.Lay.{Lay}
 use Rattle.record.specs.Fields.{body_at}
@@ -59,16 +53,16 @@ module _ (n j p : ℕ) (s : StrRef) (w : List ℕ) {r : Value} (rest : look_from
       ap (λ (k : ℕ). look_from k j p s w) q ∙ rest
 
 -- A field of a table; nil where the handle names no table or there is no such name.
-abbrev pub field_at : Lay → StrRef → List ℕ → Named → Value
-field_at l s w (At i) = look_up (body_at l.tables i) s w
-field_at l s w Stale = Nil
+abbrev pub field_at : Lay → StrRef → List ℕ → Option ℕ → Value
+field_at l s w (Some i) = look_up (body_at l.tables i) s w
+field_at l s w None = Nil
 
 unfoldable pub field_named : Lay → TableRef → StrRef → List ℕ → Value
 field_named l t s w = field_at l s w (named l.tables t.0 t.1 w)
 
-unfoldable pub field : Lay → TableRef → StrOr → List ℕ → Value
-field l t (SomeStr s) w = field_named l t s w
-field l t NoStr w = Nil
+unfoldable pub field : Lay → TableRef → Option StrRef → List ℕ → Value
+field l t (Some s) w = field_named l t s w
+field l t None w = Nil
 
 abbrev pub strong : Mode
 strong = record { keys = false; values = false }
@@ -84,9 +78,9 @@ is_both m = cond m.keys m.values false
 abbrev pub mode_of_text : List ℕ → Mode
 mode_of_text t = record { keys = has_byte t 107; values = has_byte t 118 }
 
-abbrev pub mode_of_slot : Lay → List ℕ → List ℕ → Named → Mode
-mode_of_slot l w b (At i) = mode_of_text (text_of i (string_length (body_at l.strings i) w) b)
-mode_of_slot l w b Stale = strong
+abbrev pub mode_of_slot : Lay → List ℕ → List ℕ → Option ℕ → Mode
+mode_of_slot l w b (Some i) = mode_of_text (text_of i (string_length (body_at l.strings i) w) b)
+mode_of_slot l w b None = strong
 
 unfoldable pub mode_of_string : Lay → StrRef → List ℕ → List ℕ → Mode
 mode_of_string l s w b = mode_of_slot l w b (named l.strings s.0 s.1 w)
@@ -103,11 +97,11 @@ mode_of_value l (Userdata r) w b = strong
 mode_of_value l (Thread r) w b = strong
 
 -- The mode that a metatable gives, if there is one.
-unfoldable pub weak_mode : Lay → TableOr → List ℕ → List ℕ → Mode
-weak_mode l (SomeTable t) w b = mode_of_value l (field l t (mode_name w) w) w b
-weak_mode l NoTable w b = strong
+unfoldable pub weak_mode : Lay → Option TableRef → List ℕ → List ℕ → Mode
+weak_mode l (Some t) w b = mode_of_value l (field l t (mode_name w) w) w b
+weak_mode l None w b = strong
 
 -- The `__gc` that a metatable gives now, nil where there is none.
-unfoldable pub gc_method : Lay → TableOr → List ℕ → Value
-gc_method l (SomeTable t) w = field l t (gc_name w) w
-gc_method l NoTable w = Nil
+unfoldable pub gc_method : Lay → Option TableRef → List ℕ → Value
+gc_method l (Some t) w = field l t (gc_name w) w
+gc_method l None w = Nil

@@ -4,14 +4,12 @@
 
 ghost use Rattle.std.specs.Prelude.{◌≡◌, ◌+◌, ◌≤◌, length};
 ghost use Rattle.layout.specs.Layout.{lay_of};
-ghost use Rattle.laid.specs.Laid.{Laid};
 ghost use Rattle.value.specs.Values.{key_equal};
 ghost use Rattle.value.specs.declared.Value.TheVariants.{Str};
 ghost use Rattle.modes.specs.Modes.{is_weak, is_both, look_up, field_named, field, mode_of_text, mode_of_string, mode_of_value, weak_mode, gc_method};
 
-use arena::Named;
-use layout::Sizes;
-use value::{StrOr, StrRef, TableOr, TableRef, Value};
+use layout::Plan;
+use value::{StrRef, TableRef, Value};
 
 // Weak keys, weak values.
 #[derive(Clone, Copy)]
@@ -29,20 +27,14 @@ pub const STRONG: Mode = Mode {
 pub fn is_weak(m: Mode) -> bool
     ensures { result ≡ is_weak m }
 {
-    if m.keys {
-        return true;
-    }
-    m.values
+    m.keys || m.values
 }
 
 // Weak in both.
 pub fn is_both(m: Mode) -> bool
     ensures { result ≡ is_both m }
 {
-    if m.keys {
-        return m.values;
-    }
-    false
+    m.keys && m.values
 }
 
 // The value of the first node whose key is the name, nil where there is none.
@@ -51,37 +43,33 @@ pub fn look_up(w: &[u32], p: usize, s: StrRef) -> Value
     ensures { result ≡ look_up p s w.now }
 {
     let n = record::tables::node_count(w, p);
-    let mut j: usize = 0;
-    while j < n {
+    for j in 0..n {
         if value::key_equal(record::tables::node_key(w, p, j), Value::Str(s)) {
             return record::tables::node_value(w, p, j);
         }
-        j += 1;
     }
     Value::Nil
 }
 
 // The field of a table by a name that may be missing; nil where the handle names no table.
-pub fn field(w: &[u32], l: Sizes, t: TableRef, s: StrOr) -> Value
-    requires laid { Laid (lay_of l) }
-    requires l_in_bounds { (lay_of l).words ≤ length w.now }
-    ensures { result ≡ field (lay_of l) t s w.now }
+pub fn field(w: &[u32], l: Plan, t: TableRef, s: Option<StrRef>) -> Value
+    requires l_in_bounds { (lay_of l.sizes).words ≤ length w.now }
+    ensures { result ≡ field (lay_of l.sizes) t s w.now }
 {
     match s {
-        StrOr::Present(name) => field_named(w, l, t, name),
-        StrOr::Absent => Value::Nil,
+        Some(name) => field_named(w, l, t, name),
+        None => Value::Nil,
     }
 }
 
-fn field_named(w: &[u32], l: Sizes, t: TableRef, s: StrRef) -> Value
-    requires laid { Laid (lay_of l) }
-    requires l_in_bounds { (lay_of l).words ≤ length w.now }
-    ensures { result ≡ field_named (lay_of l) t s w.now }
+fn field_named(w: &[u32], l: Plan, t: TableRef, s: StrRef) -> Value
+    requires l_in_bounds { (lay_of l.sizes).words ≤ length w.now }
+    ensures { result ≡ field_named (lay_of l.sizes) t s w.now }
 {
     let tables = layout::tables_of(l);
     match arena::name_of(w, tables, t.0, t.1) {
-        Named::At(i) => look_up(w, record::body_of(w, tables, i), s),
-        Named::Stale => Value::Nil,
+        Some(i) => look_up(w, record::body_of(w, tables, i), s),
+        None => Value::Nil,
     }
 }
 
@@ -95,27 +83,25 @@ fn mode_of_text(s: &[u8]) -> Mode
     }
 }
 
-fn mode_of_string(w: &[u32], b: &[u8], l: Sizes, s: StrRef) -> Mode
-    requires laid { Laid (lay_of l) }
-    requires l_in_bounds { (lay_of l).words ≤ length w.now }
-    requires l_in_bounds_2 { (lay_of l).bytes ≤ length b.now }
-    ensures { result ≡ mode_of_string (lay_of l) s w.now b.now }
+fn mode_of_string(w: &[u32], b: &[u8], l: Plan, s: StrRef) -> Mode
+    requires l_in_bounds { (lay_of l.sizes).words ≤ length w.now }
+    requires l_in_bounds_2 { (lay_of l.sizes).bytes ≤ length b.now }
+    ensures { result ≡ mode_of_string (lay_of l.sizes) s w.now b.now }
 {
     let strings = layout::strings_of(l);
     match arena::name_of(w, strings, s.0, s.1) {
-        Named::At(i) => {
+        Some(i) => {
             let n = record::strings::string_length(w, record::body_of(w, strings, i));
             mode_of_text(record::strings::text(b, i, n))
         }
-        Named::Stale => STRONG,
+        None => STRONG,
     }
 }
 
-fn mode_of_value(w: &[u32], b: &[u8], l: Sizes, v: Value) -> Mode
-    requires laid { Laid (lay_of l) }
-    requires l_in_bounds { (lay_of l).words ≤ length w.now }
-    requires l_in_bounds_2 { (lay_of l).bytes ≤ length b.now }
-    ensures { result ≡ mode_of_value (lay_of l) v w.now b.now }
+fn mode_of_value(w: &[u32], b: &[u8], l: Plan, v: Value) -> Mode
+    requires l_in_bounds { (lay_of l.sizes).words ≤ length w.now }
+    requires l_in_bounds_2 { (lay_of l.sizes).bytes ≤ length b.now }
+    ensures { result ≡ mode_of_value (lay_of l.sizes) v w.now b.now }
 {
     match v {
         Value::Str(s) => mode_of_string(w, b, l, s),
@@ -124,29 +110,27 @@ fn mode_of_value(w: &[u32], b: &[u8], l: Sizes, v: Value) -> Mode
 }
 
 // The mode that a metatable gives, if there is one.
-pub fn check_weak_mode(w: &[u32], b: &[u8], l: Sizes, mt: TableOr) -> Mode
-    requires laid { Laid (lay_of l) }
-    requires l_in_bounds { (lay_of l).words ≤ length w.now }
-    requires l_in_bounds_2 { (lay_of l).bytes ≤ length b.now }
-    ensures { result ≡ weak_mode (lay_of l) mt w.now b.now }
+pub fn check_weak_mode(w: &[u32], b: &[u8], l: Plan, mt: Option<TableRef>) -> Mode
+    requires l_in_bounds { (lay_of l.sizes).words ≤ length w.now }
+    requires l_in_bounds_2 { (lay_of l.sizes).bytes ≤ length b.now }
+    ensures { result ≡ weak_mode (lay_of l.sizes) mt w.now b.now }
 {
     match mt {
-        TableOr::Present(t) => {
+        Some(t) => {
             let v = field(w, l, t, main_record::mode_name(w));
             mode_of_value(w, b, l, v)
         }
-        TableOr::Absent => STRONG,
+        None => STRONG,
     }
 }
 
 // The `__gc` that a metatable gives now, nil where there is none.
-pub fn gc_method(w: &[u32], l: Sizes, mt: TableOr) -> Value
-    requires laid { Laid (lay_of l) }
-    requires l_in_bounds { (lay_of l).words ≤ length w.now }
-    ensures { result ≡ gc_method (lay_of l) mt w.now }
+pub fn gc_method(w: &[u32], l: Plan, mt: Option<TableRef>) -> Value
+    requires l_in_bounds { (lay_of l.sizes).words ≤ length w.now }
+    ensures { result ≡ gc_method (lay_of l.sizes) mt w.now }
 {
     match mt {
-        TableOr::Present(t) => field(w, l, t, main_record::gc_name(w)),
-        TableOr::Absent => Value::Nil,
+        Some(t) => field(w, l, t, main_record::gc_name(w)),
+        None => Value::Nil,
     }
 }

@@ -6,8 +6,8 @@ ghost use Rattle.base.specs.Words.{at};
 ghost use Rattle.base.specs.Heap.{heap};
 ghost use Rattle.new_codes.specs.NewCodes.{sizes_of, needed_in, needed_on, code_of, make_heap_on};
 
-use layout::{Opened, Sizes};
-use newheap::Made;
+use base::Refusal;
+use layout::Sizes;
 
 // The word at p as a number.
 fn number(s: &[u32], p: usize) -> usize
@@ -40,16 +40,16 @@ fn needed_in(s: Sizes, out: &mut [u32]) -> u32
     ensures { (result, out.new) ≡ needed_in s out.old }
 {
     match layout::plan(s) {
-        Opened::Fits(z) => {
+        Ok(z) => {
             if out.len() < 2 {
-                return 1;
+                return Refusal::Unfit.number();
             }
             let words = layout::words_of(z);
             let bytes = layout::bytes_of(z);
             told::put_two(out, words as u32, bytes as u32);
             0
         }
-        Opened::Refused(n) => n,
+        Err(n) => n.number(),
     }
 }
 
@@ -58,18 +58,18 @@ pub fn needed(sizes: &[u32], out: &mut [u32]) -> u32
     ensures { (result, out.new) ≡ needed_on sizes.now out.old }
 {
     if sizes.len() != 10 {
-        return 4;
+        return Refusal::OutOfRange.number();
     }
     needed_in(sizes_of(sizes), out)
 }
 
 // Nothing but a code.
-fn code(m: Made) -> u32
+fn code(m: Result<(), Refusal>) -> u32
     ensures { result ≡ code_of m }
 {
     match m {
-        Made::Done => 0,
-        Made::Refused(n) => n,
+        Ok(()) => 0,
+        Err(n) => n.number(),
     }
 }
 
@@ -78,7 +78,7 @@ pub fn make_heap(w: &mut [u32], b: &mut [u8], sizes: &[u32]) -> u32
     ensures { (result, heap w.new b.new) ≡ make_heap_on sizes.now (heap w.old b.old) }
 {
     if sizes.len() != 10 {
-        return 4;
+        return Refusal::OutOfRange.number();
     }
     let m = newheap::make_heap(w, b, sizes_of(sizes));
     code(m)

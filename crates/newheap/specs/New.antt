@@ -1,18 +1,16 @@
 -- Document 01, 'Sizes': the new heap, field by field. Every word and byte that the heap needs is 0 but for those written
 -- here; the rest of longer buffers is untouched. Assumes nothing.
-use Rattle.std.specs.Prelude.{List, [], ◌∷◌, ℕ, ◌+◌, ◌*◌, length}
+use Rattle.std.specs.Prelude.{List, [], ◌∷◌, ℕ, ◌+◌, ◌*◌, length, Ok, Err, Result}
 use Rattle.base.specs.Ways.{if_lt}
 use Rattle.base.specs.Words.{put, clear}
 use Rattle.base.specs.Heap.{Heap, heap}
+use Rattle.base.specs.declared.Refusal.TheVariants.{Unfit}
+use Rattle.base.specs.declared.Refusal.{Refusal}
 use Rattle.arena.specs.declared.Arena.{Arena}
 use Rattle.layout.specs.Places.{GLOBAL, REGISTRY, NAME_MODE, NAME_GC, LIMIT, PAUSE, STEPMUL, WHITE, TOTAL, PEAK, THRESHOLD, DEBT, TABLE_WORDS}
 use Rattle.layout.specs.Layout.{lay_of, planned}
 use Rattle.layout.specs.declared.Sizes.{Sizes}
 use Rattle.layout.specs.declared.Lay.{Lay}
-use Rattle.layout.specs.declared.Opened.{Opened}
-use Rattle.layout.specs.declared.Opened.TheVariants as opening
-use Rattle.newheap.specs.declared.Made.{Made}
-use Rattle.newheap.specs.declared.Made.TheVariants.{Done, Refused}
 
 -- a row is a place and what stands there
 abbrev pub puts : List (ℕ × ℕ) → List ℕ → List ℕ
@@ -84,12 +82,12 @@ abbrev pub new_heap : Lay → Heap → Heap
 new_heap l h = heap (new_words l h.words) (new_bytes l h.bytes)
 
 -- Making a heap tests the sizes (4), then the lengths (1), nothing else.
-abbrev pub made_in : Heap → Opened → Made × Heap
-made_in h (opening.Fits s) =
-    if_lt (length h.words) (lay_of s).words (Refused 1, h)
-    (if_lt (length h.bytes) (lay_of s).bytes (Refused 1, h)
-    (Done, new_heap (lay_of s) h))
-made_in h (opening.Refused n) = (Refused n, h)
+abbrev pub made_in : Heap → Result Sizes Refusal → Result Unit Refusal × Heap
+made_in h (Ok s) =
+    if_lt (length h.words) (lay_of s).words (Err Unfit, h)
+    (if_lt (length h.bytes) (lay_of s).bytes (Err Unfit, h)
+    (Ok tt, new_heap (lay_of s) h))
+made_in h (Err n) = (Err n, h)
 
-unfoldable pub make_heap : Sizes → Heap → Made × Heap
+unfoldable pub make_heap : Sizes → Heap → Result Unit Refusal × Heap
 make_heap s h = made_in h (planned s)

@@ -6,19 +6,12 @@
 ghost use Rattle.std.specs.Prelude.{◌≡◌, ℕ, ◌+◌, ◌*◌, ◌≤◌, ◌<◌, length};
 ghost use Rattle.base.specs.Words.{put};
 ghost use Rattle.base.specs.Heap.{heap};
-ghost use Rattle.layout.specs.Fits.{Ok};
+ghost use Rattle.layout.specs.Fits.{Fits};
 ghost use Rattle.newheap.specs.New.{arena_sizes, main_sizes, settings, counters, roots, two_marks, two_extents, lengths, table_sizes, names, tables, fields, new_words, mode_text, gc_text, new_bytes, new_heap, make_heap};
 
 use arena::Arena;
-use base::put;
-use layout::{Lay, Opened, Sizes};
-
-// What making a heap answers.
-#[derive(Clone, Copy)]
-pub enum Made {
-    Done,
-    Refused(u32),
-}
+use base::{Refusal, put};
+use layout::{Lay, Sizes};
 
 // A size at its place.
 fn put_size(w: &mut [u32], p: usize, n: usize)
@@ -29,7 +22,7 @@ fn put_size(w: &mut [u32], p: usize, n: usize)
 }
 
 fn put_arena_sizes(w: &mut [u32], l: Lay)
-    requires ok { Ok l l.words l.bytes }
+    requires ok { Fits l l.words l.bytes }
     requires words_in_bounds { l.words ≤ length w.old }
     ensures { w.new ≡ arena_sizes l w.old }
 {
@@ -42,7 +35,7 @@ fn put_arena_sizes(w: &mut [u32], l: Lay)
 }
 
 fn put_main_sizes(w: &mut [u32], l: Lay)
-    requires ok { Ok l l.words l.bytes }
+    requires ok { Fits l l.words l.bytes }
     requires words_in_bounds { l.words ≤ length w.old }
     ensures { w.new ≡ main_sizes l w.old }
 {
@@ -124,7 +117,7 @@ fn put_table_sizes(w: &mut [u32], a: Arena)
 
 // Both names and both tables.
 fn put_names(w: &mut [u32], l: Lay)
-    requires ok { Ok l l.words l.bytes }
+    requires ok { Fits l l.words l.bytes }
     requires words_in_bounds { l.words ≤ length w.old }
     ensures { w.new ≡ names l w.old }
 {
@@ -134,7 +127,7 @@ fn put_names(w: &mut [u32], l: Lay)
 }
 
 fn put_tables(w: &mut [u32], l: Lay)
-    requires ok { Ok l l.words l.bytes }
+    requires ok { Fits l l.words l.bytes }
     requires words_in_bounds { l.words ≤ length w.old }
     ensures { w.new ≡ tables l w.old }
 {
@@ -145,7 +138,7 @@ fn put_tables(w: &mut [u32], l: Lay)
 
 // What is not 0 of a heap with no object.
 fn put_fields(w: &mut [u32], l: Lay)
-    requires ok { Ok l l.words l.bytes }
+    requires ok { Fits l l.words l.bytes }
     requires words_in_bounds { l.words ≤ length w.old }
     ensures { w.new ≡ fields l w.old }
 {
@@ -157,7 +150,7 @@ fn put_fields(w: &mut [u32], l: Lay)
 }
 
 fn put_words(w: &mut [u32], l: Lay)
-    requires ok { Ok l l.words l.bytes }
+    requires ok { Fits l l.words l.bytes }
     requires words_in_bounds { l.words ≤ length w.old }
     ensures { w.new ≡ new_words l w.old }
 {
@@ -206,22 +199,18 @@ fn put_bytes(b: &mut [u8], l: Lay)
 }
 
 // A heap of chosen sizes in the two lent buffers.
-pub fn make_heap(w: &mut [u32], b: &mut [u8], s: Sizes) -> Made
+pub fn make_heap(w: &mut [u32], b: &mut [u8], s: Sizes) -> Result<(), Refusal>
     ensures { (result, heap w.new b.new) ≡ make_heap s (heap w.old b.old) }
 {
-    match layout::plan(s) {
-        Opened::Fits(z) => {
-            let l = layout::lay_of(z);
-            if w.len() < l.words {
-                return Made::Refused(1);
-            }
-            if b.len() < l.bytes {
-                return Made::Refused(1);
-            }
-            put_words(w, l);
-            put_bytes(b, l);
-            Made::Done
-        }
-        Opened::Refused(n) => Made::Refused(n),
+    let z = layout::plan(s)?;
+    let l = layout::lay_of(z);
+    if w.len() < l.words {
+        return Err(Refusal::Unfit);
     }
+    if b.len() < l.bytes {
+        return Err(Refusal::Unfit);
+    }
+    put_words(w, l);
+    put_bytes(b, l);
+    Ok(())
 }

@@ -1,9 +1,11 @@
 -- The call that stores a key and its value in a node: 1 and 8 as every call, then 4, then 2. A condition of row 4 that speaks of the
 -- table's record (the node's place, another node's key) holds only if the table is named: a table that names nothing is 2,
 -- whatever the place, but 4 with a NaN key. Assumes nothing.
-use Rattle.std.specs.Prelude.{Bool, true, false, cond, List, ℕ}
+use Rattle.std.specs.Prelude.{Bool, true, false, cond, List, ℕ, Ok, Err, Result}
 use Rattle.base.specs.Ways.{if_le, if_eq}
 use Rattle.base.specs.Heap.{Heap}
+use Rattle.base.specs.declared.Refusal.TheVariants.{Stale, OutOfRange}
+use Rattle.base.specs.declared.Refusal.{Refusal}
 use Rattle.value.specs.declared.TableRef.{TableRef}
 use Rattle.value.specs.declared.Value.{Value}
 use Rattle.value.specs.declared.Value.TheVariants.{Nil, Boolean, Light, Number, Str, Table, Function, Userdata, Thread}
@@ -13,8 +15,6 @@ use Rattle.layout.specs.declared.Lay.{Lay}
 use Rattle.record.specs.Tables.{node_count, node_key, set_node}
 use Rattle.making.specs.Turns.{turns}
 use Rattle.test1.specs.Calls.{call_marked, in_words}
-use Rattle.given.specs.declared.Served.{Served}
-use Rattle.given.specs.declared.Served.TheVariants.{Done, Refused}
 use Rattle.given.specs.Answers.{on_named}
 use Rattle.given.specs.Given.{is_sound}
 use Rattle.mark.specs.Words.{ops}
@@ -50,21 +50,21 @@ is_taken p j k w = cond (is_nil k) false (turns (twin_turn p j k w) false (node_
 -- Node j of table t, whose record is at p. An index outside its range and a key equal to another node's are 4; a key or a value
 -- that names no occupied slot of its kind is 2. A node is always stored with key and value. Storing in a table calls
 -- `barrier_back`.
-unfoldable pub store_node : Lay → TableRef → ℕ → Value → Value → ℕ → List ℕ → Served × List ℕ
+unfoldable pub store_node : Lay → TableRef → ℕ → Value → Value → ℕ → List ℕ → Result Unit Refusal × List ℕ
 store_node l t j k v p w =
-    if_le (node_count p w) j (Refused 4, w)
-    (cond (is_taken p j k w) (Refused 4, w)
+    if_le (node_count p w) j (Err OutOfRange, w)
+    (cond (is_taken p j k w) (Err OutOfRange, w)
     (cond (is_sound l k w)
     (cond (is_sound l v w)
-    (Done, barrier_back (ops l) t (set_node p j k v w))
-    (Refused 2, w))
-    (Refused 2, w)))
+    (Ok tt, barrier_back (ops l) t (set_node p j k v w))
+    (Err Stale, w))
+    (Err Stale, w)))
 
-unfoldable pub table_set_node_in : TableRef → ℕ → Value → Value → Lay → List ℕ → Served × List ℕ
+unfoldable pub table_set_node_in : TableRef → ℕ → Value → Value → Lay → List ℕ → Result Unit Refusal × List ℕ
 table_set_node_in t j k v l w =
     cond (is_node k v)
     (on_named l.tables t.0 t.1 (store_node l t j k v) w)
-    (Refused 4, w)
+    (Err OutOfRange, w)
 
-unfoldable pub table_set_node : TableRef → ℕ → Value → Value → Heap → Served × Heap
-table_set_node t j k v h = call_marked Refused (in_words (table_set_node_in t j k v)) h
+unfoldable pub table_set_node : TableRef → ℕ → Value → Value → Heap → Result Unit Refusal × Heap
+table_set_node t j k v h = call_marked Err (in_words (table_set_node_in t j k v)) h

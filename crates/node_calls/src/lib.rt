@@ -5,12 +5,10 @@
 ghost use Rattle.std.specs.Prelude.{◌≡◌, ◌+◌, ◌≤◌, ◌<◌, length};
 ghost use Rattle.layout.specs.Layout.{lay_of};
 ghost use Rattle.base.specs.Heap.{heap};
-ghost use Rattle.laid.specs.Laid.{Laid};
 ghost use Rattle.node_calls.specs.NodeCalls.{is_nan_key, is_node, is_twin, is_taken, store_node, table_set_node_in, table_set_node};
 
-use arena::Named;
-use given::Served;
-use layout::{Opened, Sizes};
+use base::Refusal;
+use layout::Plan;
 use value::{TableRef, Value};
 
 // Whether a key is NaN.
@@ -28,12 +26,12 @@ fn is_node(k: Value, v: Value) -> bool
     ensures { result ≡ is_node k v }
 {
     if is_nan_key(k) {
-        return false;
+        false
+    } else if value::is_nil(k) {
+        value::is_nil(v)
+    } else {
+        true
     }
-    if value::is_nil(k) {
-        return value::is_nil(v);
-    }
-    true
 }
 
 // Whether node i is another node than j and has its key.
@@ -42,10 +40,7 @@ fn is_twin(w: &[u32], p: usize, j: usize, k: Value, i: usize) -> bool
     requires i_bound { i < 64 }
     ensures { result ≡ is_twin p j k w.now i }
 {
-    if i == j {
-        return false;
-    }
-    value::key_equal(record::tables::node_key(w, p, i), k)
+    i != j && value::key_equal(record::tables::node_key(w, p, i), k)
 }
 
 // Whether another node than j has the key.
@@ -57,12 +52,10 @@ fn is_taken(w: &[u32], p: usize, j: usize, k: Value) -> bool
         return false;
     }
     let n = record::tables::node_count(w, p);
-    let mut i: usize = 0;
-    while i < n {
+    for i in 0..n {
         if is_twin(w, p, j, k, i) {
             return true;
         }
-        i += 1;
     }
     false
 }
@@ -70,63 +63,67 @@ fn is_taken(w: &[u32], p: usize, j: usize, k: Value) -> bool
 // Node j of table t, whose record is at p.
 fn store_node(
     w: &mut [u32],
-    l: Sizes,
+    l: Plan,
     t: TableRef,
     j: usize,
     k: Value,
     v: Value,
     p: usize,
-) -> Served
-    requires laid { Laid (lay_of l) }
-    requires l_in_bounds { (lay_of l).words ≤ length w.old }
+) -> Result<(), Refusal>
+    requires l_in_bounds { (lay_of l.sizes).words ≤ length w.old }
     requires p_in_bounds { p + 580 ≤ length w.old }
-    ensures { (result, w.new) ≡ store_node (lay_of l) t j k v p w.old }
+    ensures { (result, w.new) ≡ store_node (lay_of l.sizes) t j k v p w.old }
 {
     if record::tables::node_count(w, p) <= j {
-        return Served::Refused(4);
+        return Err(Refusal::OutOfRange);
     }
     if is_taken(w, p, j, k) {
-        return Served::Refused(4);
+        return Err(Refusal::OutOfRange);
     }
     if !given::is_sound(w, l, k) {
-        return Served::Refused(2);
+        return Err(Refusal::Stale);
     }
     if !given::is_sound(w, l, v) {
-        return Served::Refused(2);
+        return Err(Refusal::Stale);
     }
     record::tables::set_node(w, p, j, k, v);
     propagate::barrier_back(w, l, t);
-    Served::Done
+    Ok(())
 }
 
-fn table_set_node_in(w: &mut [u32], l: Sizes, t: TableRef, j: u32, k: Value, v: Value) -> Served
-    requires laid { Laid (lay_of l) }
-    requires l_in_bounds { (lay_of l).words ≤ length w.old }
-    ensures { (result, w.new) ≡ table_set_node_in t j k v (lay_of l) w.old }
+fn table_set_node_in(
+    w: &mut [u32],
+    l: Plan,
+    t: TableRef,
+    j: u32,
+    k: Value,
+    v: Value,
+) -> Result<(), Refusal>
+    requires l_in_bounds { (lay_of l.sizes).words ≤ length w.old }
+    ensures { (result, w.new) ≡ table_set_node_in t j k v (lay_of l.sizes) w.old }
 {
     let tables = layout::tables_of(l);
     if !is_node(k, v) {
-        return Served::Refused(4);
+        return Err(Refusal::OutOfRange);
     }
-    match arena::name_of(w, tables, t.0, t.1) {
-        Named::At(n) => {
-            let p = record::body_of(w, tables, n);
-            store_node(w, l, t, base::wide(j), k, v, p)
-        }
-        Named::Stale => Served::Refused(2),
-    }
+    let n = arena::name_of(w, tables, t.0, t.1).ok_or(Refusal::Stale)?;
+    let p = record::body_of(w, tables, n);
+    store_node(w, l, t, base::wide(j), k, v, p)
 }
 
 // Key and value in node j of a table, counted from 0; nil for both empties it. 4 for a key that is NaN or nil with a value, and, of
 // a table that is named, past its nodes or for a key that another node has; 2 for a table, a key or a value that names nothing.
-pub fn table_set_node(w: &mut [u32], b: &[u8], t: TableRef, j: u32, k: Value, v: Value) -> Served
+pub fn table_set_node(
+    w: &mut [u32],
+    b: &[u8],
+    t: TableRef,
+    j: u32,
+    k: Value,
+    v: Value,
+) -> Result<(), Refusal>
     ensures { (result, heap w.new b.now) ≡ table_set_node t j k v (heap w.old b.now) }
 {
-    match test1::enter(w, b) {
-        Opened::Fits(l) => {
-            let a = table_set_node_in(w, l, t, j, k, v);
-            given::unmarked(w, a)
-        }
-        Opened::Refused(n) => Served::Refused(n),
-    }
+    let l = test1::enter(w, b)?;
+    let a = table_set_node_in(w, l, t, j, k, v);
+    given::unmarked(w, a)
 }

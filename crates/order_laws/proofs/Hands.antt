@@ -1,7 +1,7 @@
 -- The queue is handed out from its end: each item once, the method looked up then. The definitions are those of specs/Hands.antt.
 -- Assumes nothing.
 --     finalize_hands                what Finalize hands out, for any words
-use Rattle.std.specs.Prelude.{◌≡◌, Bool, ◌⊎◌, ◌≢◌, length}
+use Rattle.std.specs.Prelude.{◌≡◌, Bool, ◌⊎◌, ◌≢◌, length, Some, None, Option}
 use Rattle.std.proofs.Math.Path.{refl, ap, subst}
 use Rattle.std.proofs.Common.{sym, ◌∙◌, inl, inr}
 use Rattle.std.proofs.Math.Bool.{true, false, cond}
@@ -13,10 +13,9 @@ use Rattle.std.proofs.Math.Seq.{get_or-set_other}
 use Rattle.base.specs.Ways.{if_eq}
 use Rattle.base.specs.Words.{at, put}
 use Rattle.base.specs.Heap.{Heap}
-use Rattle.arena.specs.declared.Named.TheVariants.{At, Stale}
+use Rattle.value.specs.declared.TableRef.{TableRef}
 use Rattle.arena.specs.Slots.{named}
 use Rattle.value.specs.declared.UdRef.{UdRef}
-use Rattle.value.specs.declared.TableOr.{TableOr}
 use Rattle.value.specs.declared.Value.{Value}
 use Rattle.value.specs.declared.Value.TheVariants.{Nil}
 use Rattle.value.specs.Values.{is_nil}
@@ -24,8 +23,6 @@ use Rattle.layout.specs.declared.Lay.{Lay}
 use Rattle.layout.specs.Places.{PHASE, ESTIMATE, THRESHOLD}
 use Rattle.lists.specs.declared.Item.{Item}
 use Rattle.lists.specs.declared.Item.TheVariants.{Table, Function, Userdata, Thread, Main, Unknown}
-use Rattle.lists.specs.declared.Popped.{Popped}
-use Rattle.lists.specs.declared.Popped.TheVariants.{Got}
 use Rattle.lists.specs.Lists.{item_in, length_of, place, item_at, taken, pop}
 use Rattle.lists.proofs.Laws.{item_three, item_found, pop_some, pop_length, pop_long, pop_kept, taken_kept}
 use Rattle.record.specs.Fields.{body_at}
@@ -74,7 +71,7 @@ module _ (l : Lay) (ok : Laid l) (a : Apart l) where
 
   calm_named : (w u : List ℕ) → Calm w u → (k i g : ℕ) → k ≤ 5 → named (arena_of l k) i g u ≡ named (arena_of l k) i g w
   calm_named w u s k i g h =
-      named_shade (arena_of l k) i g u ∙ ap (λ (c : ℕ). if_eq c 0 Stale (At i)) (calm_shade w u s k i g h) ∙ sym (named_shade (arena_of l k) i g w)
+      named_shade (arena_of l k) i g u ∙ ap (λ (c : ℕ). if_eq c 0 None (Some i)) (calm_shade w u s k i g h) ∙ sym (named_shade (arena_of l k) i g w)
 
   -- So a method is what it was.
   calm_reads : (w u : List ℕ) → Calm w u → Reads l w u
@@ -96,7 +93,7 @@ module _ (l : Lay) (ok : Laid l) (a : Apart l) where
   method_same w u s r =
       let first : Agree w u (body_at l.userdata r.0) 2 = record { word = λ q g h. s q (inr (inr (omega (arith, g, o.past_userdata)))) } in
       ap (λ (c : ℕ). if_eq c 0 Nil (gc_method l (ud_meta (body_at l.userdata r.0) u) u)) (calm_shade w u s 4 r.0 r.1 (omega arith))
-      ∙ ap (λ (t : TableOr). if_eq (shade l.userdata r.0 r.1 w) 0 Nil (gc_method l t u)) (table_same first (body_at l.userdata r.0) (omega arith) (omega arith))
+      ∙ ap (λ (t : Option TableRef). if_eq (shade l.userdata r.0 r.1 w) 0 Nil (gc_method l t u)) (table_same first (body_at l.userdata r.0) (omega arith) (omega arith))
       ∙ ap (λ (v : Value). if_eq (shade l.userdata r.0 r.1 w) 0 Nil v) (gc_method_same (calm_reads w u s) (ud_meta (body_at l.userdata r.0) w))
 
   offered_same : (w u : List ℕ) → Calm w u → (x : Item) (xs : List UdRef) → offered l u x xs ≡ offered l w x xs
@@ -155,7 +152,7 @@ module _ (l : Lay) (ok : Laid l) (a : Apart l) where
   hand_step n h long p e = subst (λ (y : Single × Heap). Stepped n h y.1 y.0) (sym is) (record {
     long = t.long ∙ p_long;
     phase = t.word PHASE (inl (omega arith)) ∙ kept PHASE (λ z. omega (arith, z)) (inl (omega (arith, o.header, a))) ∙ p;
-    count = ap (λ (m : ℕ). min m l.queue.room) (t.word l.queue.count (inr (omega (arith, queue_count l ok)))) ∙ ap (length_of l.queue) (sym (ap (λ (y : Popped × List ℕ). y.1) some)) ∙ pop_length l.queue w (queue_room_lem l w ok long) ∙ minus (length_of l.queue w) e;
+    count = ap (λ (m : ℕ). min m l.queue.room) (t.word l.queue.count (inr (omega (arith, queue_count l ok)))) ∙ ap (length_of l.queue) (sym (ap (λ (y : Option Item × List ℕ). y.1) some)) ∙ pop_length l.queue w (queue_room_lem l w ok long) ∙ minus (length_of l.queue w) e;
     items = λ i f. left i f;
     calm = calm;
     says = λ xs. t.says xs ∙ offered_same w w' calm' x xs ∙ ap (λ (y : Item). offered l w y xs) item;
@@ -179,21 +176,21 @@ module _ (l : Lay) (ok : Laid l) (a : Apart l) where
       minus : (m : ℕ) → m ≡ n + 1 → m - 1 ≡ n
       minus m e = omega (arith, e)
 
-      some : pop l.queue h.words ≡ (Got (item_at l.queue (length_of l.queue h.words - 1) h.words), taken l.queue (length_of l.queue h.words - 1) h.words)
+      some : pop l.queue h.words ≡ (Some (item_at l.queue (length_of l.queue h.words - 1) h.words), taken l.queue (length_of l.queue h.words - 1) h.words)
       some = pop_some l.queue h.words not_zero
 
       is : single_step l h ≡ in_bytes (finalize_item l (item_at l.queue (length_of l.queue h.words - 1) h.words) (taken l.queue (length_of l.queue h.words - 1) h.words)) h.bytes
-      is = finalize_step_lem l h p ∙ ap (λ (y : Popped × List ℕ). in_bytes (finalized l y) h.bytes) some
+      is = finalize_step_lem l h p ∙ ap (λ (y : Option Item × List ℕ). in_bytes (finalized l y) h.bytes) some
 
       t : Turn (item_at l.queue (length_of l.queue h.words - 1) h.words) (taken l.queue (length_of l.queue h.words - 1) h.words)
           (finalize_item l (item_at l.queue (length_of l.queue h.words - 1) h.words) (taken l.queue (length_of l.queue h.words - 1) h.words))
       t = item_turn x w'
 
       p_long : length w' ≡ length w
-      p_long = ap (λ (y : Popped × List ℕ). length y.1) (sym some) ∙ pop_long l.queue w (queue_room_lem l w ok long)
+      p_long = ap (λ (y : Option Item × List ℕ). length y.1) (sym some) ∙ pop_long l.queue w (queue_room_lem l w ok long)
 
       kept : (q : ℕ) → q ≢ 72 → (q < l.queue.base) ⊎ (l.queue.base + 3 * l.queue.room ≤ q) → at w' q ≡ at w q
-      kept q d g = ap (λ (y : Popped × List ℕ). at y.1 q) (sym some) ∙ pop_kept l.queue w (queue_room_lem l w ok long) q (λ z. d (z ∙ queue_count l ok)) g
+      kept q d g = ap (λ (y : Option Item × List ℕ). at y.1 q) (sym some) ∙ pop_kept l.queue w (queue_room_lem l w ok long) q (λ z. d (z ∙ queue_count l ok)) g
 
       calm' : Calm w w'
       calm' q (inl f) = kept q (λ z. omega (arith, z, f)) (inl (omega (arith, f, o.header, a)))

@@ -1,11 +1,2 @@
-// Laws of the order in which finalizers are handed out: all of them stand in specs/. A crate has a function, so here is one.
+// Laws of the order in which finalizers are handed out: all of them stand in specs/.
 #![tactic(auto)]
-
-ghost use Rattle.std.specs.Prelude.{◌≡◌};
-
-// The number that it is given.
-pub fn same(x: u32) -> u32
-    ensures { result ≡ x }
-{
-    x
-}

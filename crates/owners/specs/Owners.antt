@@ -1,9 +1,9 @@
 -- Where the stacks and lists of the main record and of a thread lie, with their counts as they are read, and a thread's record
 -- by its handle. Assumes nothing.
-use Rattle.std.specs.Prelude.{List, ℕ, ◌+◌, ◌≤◌}
+use Rattle.std.specs.Prelude.{List, ℕ, ◌+◌, ◌≤◌, Some, None, Option}
+use Rattle.base.specs.declared.Refusal.{Refusal}
+use Rattle.base.specs.declared.Refusal.TheVariants.{Stale}
 use Rattle.arena.specs.declared.Arena.{Arena}
-use Rattle.arena.specs.declared.Named.{Named}
-use Rattle.arena.specs.declared.Named.TheVariants as named
 use Rattle.arena.specs.Slots as slots
 use Rattle.value.specs.declared.ThreadRef.{ThreadRef}
 use Rattle.layout.specs.declared.Lay.{Lay}
@@ -12,8 +12,6 @@ use Rattle.record.specs.Fields.{body_at}
 use Rattle.run_record.specs.Threads.{thread_size, thread_top, thread_open_count, thread_suspended_count}
 use Rattle.main_record.specs.Main.{main_top, main_open_count}
 use Rattle.stacks.specs.declared.Counted.{Counted}
-use Rattle.owners.specs.declared.Body.{Body}
-use Rattle.owners.specs.declared.Body.TheVariants.{At, Stale}
 
 -- The main stack and the main open list.
 unfoldable pub main_stack : Lay → List ℕ → Counted
@@ -33,23 +31,23 @@ unfoldable pub thread_suspended : ℕ → List ℕ → Counted
 thread_suspended p w = record { word = p + 11; base = p + 44; room = 16; count = thread_suspended_count p w }
 
 -- The place of the record of what a handle names.
-abbrev pub body_in : Arena → Named → Body
-body_in a (named.At i) = At (body_at a i)
-body_in a named.Stale = Stale
+abbrev pub body_in : Arena → Option ℕ → Option ℕ
+body_in a (Some i) = Some (body_at a i)
+body_in a None = None
 
-unfoldable pub thread_body : Lay → ThreadRef → List ℕ → Body
+unfoldable pub thread_body : Lay → ThreadRef → List ℕ → Option ℕ
 thread_body l t w = body_in l.threads (slots.named l.threads t.0 t.1 w)
 
 -- a thread's record lies within n words
-abbrev pub Inside : Body → ℕ → Type 0
-Inside (At p) n = p + 268 ≤ n
-Inside Stale n = Unit {0}
+abbrev pub Inside : Option ℕ → ℕ → Type 0
+Inside (Some p) n = p + 268 ≤ n
+Inside None n = Unit {0}
 
 -- A handle that names no thread is 2: what rows 5 and 4 say of a thread's record holds only if the thread is named.
-module _ {A : Type 0} (refuse : ℕ → A) (f : ℕ → List ℕ → A × List ℕ) where
-  abbrev pub on_body : List ℕ → Body → A × List ℕ
-  on_body w (At p) = f p w
-  on_body w Stale = (refuse 2, w)
+module _ {A : Type 0} (refuse : Refusal → A) (f : ℕ → List ℕ → A × List ℕ) where
+  abbrev pub on_body : List ℕ → Option ℕ → A × List ℕ
+  on_body w (Some p) = f p w
+  on_body w None = (refuse Stale, w)
 
   unfoldable pub on_thread : Lay → ThreadRef → List ℕ → A × List ℕ
   on_thread l t w = on_body w (thread_body l t w)

@@ -3,44 +3,33 @@
 
 ghost use Rattle.std.specs.Prelude.{◌≡◌, ◌+◌, ◌≤◌, length};
 ghost use Rattle.layout.specs.Layout.{lay_of};
-ghost use Rattle.laid.specs.Laid.{Laid};
 ghost use Rattle.stacks.specs.Places.{Holds};
 ghost use Rattle.owners.specs.Owners.{main_stack, main_opens, thread_stack, thread_opens, thread_suspended, thread_body, Inside};
 
-use arena::Named;
-use layout::Sizes;
+use layout::Plan;
 use stacks::Counted;
 use value::ThreadRef;
 
-// The place of the record that a handle names.
-#[derive(Clone, Copy)]
-pub enum Body {
-    At(usize),
-    Stale,
-}
-
-pub fn main_stack(w: &[u32], l: Sizes) -> Counted
-    requires laid { Laid (lay_of l) }
-    requires l_in_bounds { (lay_of l).words ≤ length w.now }
-    ensures { (result ≡ main_stack (lay_of l) w.now) × Holds result 3 (length w.now) }
+pub fn main_stack(w: &[u32], l: Plan) -> Counted
+    requires l_in_bounds { (lay_of l.sizes).words ≤ length w.now }
+    ensures { (result ≡ main_stack (lay_of l.sizes) w.now) × Holds result 3 (length w.now) }
 {
     Counted {
         word: layout::TOP,
         base: layout::stack_at(l),
-        room: l.stack,
+        room: l.sizes.stack,
         count: main_record::main_top(w, l),
     }
 }
 
-pub fn main_opens(w: &[u32], l: Sizes) -> Counted
-    requires laid { Laid (lay_of l) }
-    requires l_in_bounds { (lay_of l).words ≤ length w.now }
-    ensures { (result ≡ main_opens (lay_of l) w.now) × Holds result 2 (length w.now) }
+pub fn main_opens(w: &[u32], l: Plan) -> Counted
+    requires l_in_bounds { (lay_of l.sizes).words ≤ length w.now }
+    ensures { (result ≡ main_opens (lay_of l.sizes) w.now) × Holds result 2 (length w.now) }
 {
     Counted {
         word: layout::OPENS,
         base: layout::opens_at(l),
-        room: l.opens,
+        room: l.sizes.opens,
         count: main_record::main_open_count(w, l),
     }
 }
@@ -82,14 +71,11 @@ pub fn thread_suspended(w: &[u32], p: usize) -> Counted
     }
 }
 
-pub fn thread_body(w: &[u32], l: Sizes, t: ThreadRef) -> Body
-    requires laid { Laid (lay_of l) }
-    requires l_in_bounds { (lay_of l).words ≤ length w.now }
-    ensures { (result ≡ thread_body (lay_of l) t w.now) × Inside result (length w.now) }
+pub fn thread_body(w: &[u32], l: Plan, t: ThreadRef) -> Option<usize>
+    requires l_in_bounds { (lay_of l.sizes).words ≤ length w.now }
+    ensures { (result ≡ thread_body (lay_of l.sizes) t w.now) × Inside result (length w.now) }
 {
     let threads = layout::threads_of(l);
-    match arena::name_of(w, threads, t.0, t.1) {
-        Named::At(i) => Body::At(record::body_of(w, threads, i)),
-        Named::Stale => Body::Stale,
-    }
+    let i = arena::name_of(w, threads, t.0, t.1)?;
+    Some(record::body_of(w, threads, i))
 }

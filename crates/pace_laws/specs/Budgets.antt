@@ -3,7 +3,7 @@
 --     Call, called, calls     the steps, and a list of them until one has ended the sweep
 --     Rules, budgeted_keeps, called_keeps, chosen     what each keeps, for any predicates that single steps and stores keep
 --     calls_freed, planned_calls     demand 3; for the layout of any sizes
-use Rattle.std.specs.Prelude.{◌≡◌, ◌⊎◌, ◌≢◌, length}
+use Rattle.std.specs.Prelude.{◌≡◌, ◌⊎◌, ◌≢◌, length, Ok, Result}
 use Rattle.std.proofs.Math.Path.{refl, subst}
 use Rattle.std.proofs.Common.{sym, ◌∙◌, get_or-set_other}
 use Rattle.std.proofs.Math.Logic.{inl, inr, ⊎_elim}
@@ -14,6 +14,9 @@ use native.Mathlib.Omega.{arith}
 use Rattle.base.specs.Ways.{if_eq, eq_yes, eq_no, le_yes, le_no}
 use Rattle.base.specs.Words.{at, put}
 use Rattle.base.specs.Heap.{Heap, heap}
+use Rattle.base.specs.declared.Refusal.{Refusal}
+use Rattle.std.specs.declared.ops.ControlFlow.TheVariants.{Continue, Break}
+use Rattle.std.specs.declared.ops.ControlFlow.{ControlFlow}
 use Rattle.value.specs.declared.UdRef.{UdRef}
 use Rattle.value.specs.Handles.{put_handle}
 use Rattle.layout.specs.declared.Sizes.{Sizes}
@@ -30,8 +33,6 @@ use Rattle.reach.specs.Cycle.{AllWhite}
 use Rattle.atomic_laws.specs.Bodies.{Bodies, bodies}
 use Rattle.accounts.specs.declared.Answer.{Answer}
 use Rattle.accounts.specs.declared.Answer.TheVariants.{Unfinished, Ended}
-use Rattle.accounts.specs.declared.Turn.{Turn}
-use Rattle.accounts.specs.declared.Turn.TheVariants.{Left, Over}
 use Rattle.accounts.specs.Accounts.{update_threshold, step_ends, handed, after_cost, grown}
 use Rattle.step.specs.declared.Single.{Single}
 use Rattle.step.specs.declared.Single.TheVariants.{Cost, Out}
@@ -124,32 +125,32 @@ module _ (l : Lay) (G P : Heap → Type 0) where
         (state_store INTERRUPTED (omega arith) (omega arith) _ u c s))))
 
     -- What a turn leaves: work to go on with, or an end.
-    abbrev Turned : Turn × Heap → Type 0
-    Turned (Left j, h) = Awake h
-    Turned (Over x, h) = State h
+    abbrev Turned : ControlFlow (Result Answer Refusal) ℕ × Heap → Type 0
+    Turned (Continue j, h) = Awake h
+    Turned (Break x, h) = State h
 
     cost_keeps : (left c : ℕ) (h : Heap) → State h → Turned ((after_cost left c h.words).0, heap (after_cost left c h.words).1 h.bytes)
     unfolding after_cost
     cost_keeps left c h s = go (ℕ_discrete (at h.words PHASE) 0) (dec_lt c left)
       where
-        T : Turn × List ℕ → Type 0
+        T : ControlFlow (Result Answer Refusal) ℕ × List ℕ → Type 0
         T x = Turned (x.0, heap x.1 h.bytes)
 
         go : Dec (at h.words PHASE ≡ 0) → Dec (c < left) → T (after_cost left c h.words)
-        go (yes e) d = subst T (eq_yes (at h.words PHASE) 0 (Over Ended, update_threshold h.words) _ _ e refl) (cycle_state h.words h.bytes s)
+        go (yes e) d = subst T (eq_yes (at h.words PHASE) 0 (Break (Ok Ended), update_threshold h.words) _ _ e refl) (cycle_state h.words h.bytes s)
         go (no e) (yes d) =
-            subst T (eq_no (at h.words PHASE) 0 (Over Ended, update_threshold h.words) _ _ e (le_no left c (Over Unfinished, step_ends h.words) (Left (left - c), h.words) _ d refl)) (state_awake s e)
+            subst T (eq_no (at h.words PHASE) 0 (Break (Ok Ended), update_threshold h.words) _ _ e (le_no left c (Break (Ok Unfinished), step_ends h.words) (Continue (left - c), h.words) _ d refl)) (state_awake s e)
         go (no e) (no d) =
-            subst T (eq_no (at h.words PHASE) 0 (Over Ended, update_threshold h.words) _ _ e (le_yes left c (Over Unfinished, step_ends h.words) (Left (left - c), h.words) _ (omega (arith, d)) refl))
+            subst T (eq_no (at h.words PHASE) 0 (Break (Ok Ended), update_threshold h.words) _ _ e (le_yes left c (Break (Ok Unfinished), step_ends h.words) (Continue (left - c), h.words) _ (omega (arith, d)) refl))
             (ends_state h.words h.bytes s)
 
     turned_keeps : (kind left : ℕ) (x : Single × Heap) → State x.1 → Turned (turned kind left x)
     turned_keeps kind left (Cost c, h) s = cost_keeps left c h s
     turned_keeps kind left (Out q z, h) s = handed_state kind q left h.words h.bytes s
 
-    on_keeps : (x : Turn × Heap) (on : ℕ → Heap → Answer × Heap) → Turned x → ((j : ℕ) (h : Heap) → Awake h → State (on j h).1) → State (on_turn x on).1
-    on_keeps (Left j, h) on s go = go j h s
-    on_keeps (Over x, h) on s go = s
+    on_keeps : (x : ControlFlow (Result Answer Refusal) ℕ × Heap) (on : ℕ → Heap → Result Answer Refusal × Heap) → Turned x → ((j : ℕ) (h : Heap) → Awake h → State (on j h).1) → State (on_turn x on).1
+    on_keeps (Continue j, h) on s go = go j h s
+    on_keeps (Break x, h) on s go = s
 
     for_keeps : (n kind left : ℕ) (h : Heap) → Awake h → State (budgeted_for n l kind left h).1
     unfolding budgeted_for turn

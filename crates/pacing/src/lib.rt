@@ -23,10 +23,7 @@ pub struct Counts {
 pub fn budget_of(b: i64) -> u64
     ensures { result ≡ budget_of b }
 {
-    if b < 0 {
-        return 0;
-    }
-    b as u64
+    if b < 0 { 0 } else { b as u64 }
 }
 
 // (1024/100) * stepmul, whole division; for stepmul 0, 2^62 - 1.
@@ -34,9 +31,10 @@ pub fn automatic_budget(stepmul: u32) -> u64
     ensures { result ≡ automatic_budget stepmul }
 {
     if stepmul == 0 {
-        return 4611686018427387903;
+        4611686018427387903
+    } else {
+        10 * (stepmul as u64)
     }
-    10 * (stepmul as u64)
 }
 
 // The debt grows by total minus threshold.
@@ -44,9 +42,10 @@ pub fn grown_debt(debt: u64, total: u64, threshold: u64) -> u64
     ensures { result ≡ grown_debt debt total threshold }
 {
     if threshold <= total {
-        return base::add_sat(debt, total - threshold);
+        base::add_sat(debt, total - threshold)
+    } else {
+        base::sub_sat(debt, threshold - total)
     }
-    base::sub_sat(debt, threshold - total)
 }
 
 // At the end of a cycle: (estimate / 100) * pause, at least 4,096.
@@ -54,10 +53,7 @@ pub fn cycle_threshold(estimate: u32, pause: u32) -> u64
     ensures { result ≡ cycle_threshold estimate pause }
 {
     let t = (estimate / 100) as u64 * (pause as u64);
-    if t < 4096 {
-        return 4096;
-    }
-    t
+    t.max(4096)
 }
 
 // After a finalizer that did not fail: total * pause / 100.
@@ -72,9 +68,10 @@ pub fn step_threshold(debt: u64, total: u32) -> u64
     ensures { result ≡ step_threshold debt total }
 {
     if debt < 9223372036854776832 {
-        return total as u64 + 1024;
+        total as u64 + 1024
+    } else {
+        total as u64
     }
-    total as u64
 }
 
 // And the debt is then 1,024 less where it was not below that.
@@ -82,9 +79,10 @@ pub fn debt_after(debt: u64) -> u64
     ensures { result ≡ debt_after debt }
 {
     if debt < 9223372036854776832 {
-        return debt;
+        debt
+    } else {
+        debt - 1024
     }
-    debt - 1024
 }
 
 // A finalizer that did not fail lowers an estimate above 100 by 100.
@@ -92,20 +90,17 @@ pub fn lowered(estimate: u32) -> u32
     ensures { result ≡ lowered estimate }
 {
     if 100 < estimate {
-        return estimate - 100;
+        estimate - 100
+    } else {
+        estimate
     }
-    estimate
 }
 
 // Total and estimate stop at 0.
 pub fn less(x: u32, n: usize) -> u32
     ensures { result ≡ less x n }
 {
-    let y = base::wide(x);
-    if y <= n {
-        return 0;
-    }
-    (y - n) as u32
+    base::wide(x).saturating_sub(n) as u32
 }
 
 // Sizes in the total: string 48, table 64, closure 48, upvalue 24, userdata 48, thread 256.

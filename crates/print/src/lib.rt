@@ -9,8 +9,12 @@ pub fn say(rt: &impl Print, text: &[u8]) -> io::Result<()> {
     rt.write_all(text)
 }
 
-// A number between two texts: 32 bits, or 64.
+// A number between two texts: 32 bits, a place or a length, or 64 bits.
 pub fn count(rt: &impl Print, before: &[u8], n: u32, after: &[u8]) -> io::Result<()> {
+    long(rt, before, n as u64, after)
+}
+
+pub fn at(rt: &impl Print, before: &[u8], n: usize, after: &[u8]) -> io::Result<()> {
     long(rt, before, n as u64, after)
 }
 
@@ -62,13 +66,8 @@ pub fn heapscript() -> Sizes {
     Sizes {
         strings: 16,
         tables: 16,
-        functions: 0,
-        upvalues: 0,
         userdata: 16,
-        threads: 0,
-        protos: 0,
         stack: 32,
-        opens: 0,
-        frames: 1,
+        ..smallest()
     }
 }

@@ -3,6 +3,7 @@
 #![tactic(auto)]
 
 use accounts::Answer;
+use base::Refusal;
 use lists::Item;
 use print::{count, long, say};
 use std::io;
@@ -38,20 +39,20 @@ pub fn item(rt: &impl Print, x: Item) -> io::Result<()> {
     }
 }
 
-pub fn answer(rt: &impl Print, a: Answer) -> io::Result<()> {
+pub fn answer(rt: &impl Print, a: Result<Answer, Refusal>) -> io::Result<()> {
     match a {
-        Answer::Stepped(c) => long(rt, b"a step of cost ", c as u64, b"\n"),
-        Answer::Unfinished => say(rt, b"unfinished\n"),
-        Answer::Ended => say(rt, b"the cycle ended\n"),
-        Answer::Passed => say(rt, b"passed\n"),
-        Answer::Handed(r, v) => {
+        Ok(Answer::Stepped(c)) => long(rt, b"a step of cost ", c as u64, b"\n"),
+        Ok(Answer::Unfinished) => say(rt, b"unfinished\n"),
+        Ok(Answer::Ended) => say(rt, b"the cycle ended\n"),
+        Ok(Answer::Passed) => say(rt, b"passed\n"),
+        Ok(Answer::Handed(r, v)) => {
             value(rt, Value::Userdata(r))?;
             say(rt, b" is handed out with ")?;
             value(rt, v)?;
             say(rt, b"\n")
         }
-        Answer::Busy => say(rt, b"busy\n"),
-        Answer::Failed => say(rt, b"failed\n"),
-        Answer::Refused(n) => count(rt, b"refused ", n, b"\n"),
+        Ok(Answer::Busy) => say(rt, b"busy\n"),
+        Ok(Answer::Failed) => say(rt, b"failed\n"),
+        Err(n) => count(rt, b"refused ", n.number(), b"\n"),
     }
 }

@@ -1,10 +1,8 @@
 -- Propagation: one gray object after the other is taken off the end of the list and traversed. Assumes nothing.
-use Rattle.std.specs.Prelude.{Bool, true, false, cond, List, ℕ, zero, suc, ◌+◌, ◌≤◌}
+use Rattle.std.specs.Prelude.{Bool, true, false, cond, List, ℕ, zero, suc, ◌+◌, ◌≤◌, Some, None, Option}
 use Rattle.layout.specs.declared.Lay.{Lay}
 use Rattle.lists.specs.declared.Item.{Item}
 use Rattle.lists.specs.declared.Item.TheVariants.{Table, Function, Userdata, Thread, Main, Unknown}
-use Rattle.lists.specs.declared.Popped.{Popped}
-use Rattle.lists.specs.declared.Popped.TheVariants.{Nothing, Got}
 use Rattle.mark.specs.Ops.{gray, Ops}
 use Rattle.table_walk.specs.Tables.{traverse_table}
 use Rattle.run_walk.specs.Closures.{traverse_closure}
@@ -40,9 +38,9 @@ module _ {S : Type 0} (O : Ops S) (l : Lay) (b : List ℕ) where
   propagate_item (Userdata r) s = (Done 0, s)
   propagate_item Unknown s = (Done 0, s)
 
-  abbrev pub propagate_popped : Popped × S → Propagated × S
-  propagate_popped (Got x, s) = propagate_item x s
-  propagate_popped (Nothing, s) = (Empty, s)
+  abbrev pub propagate_popped : Option Item × S → Propagated × S
+  propagate_popped (Some x, s) = propagate_item x s
+  propagate_popped (None, s) = (Empty, s)
 
   unfoldable pub propagate_one : S → Propagated × S
   propagate_one s = propagate_popped (O.pop gray s)

@@ -1,9 +1,8 @@
 -- Document 01, 'Followed links', roots: global, registry, type metatables, both names; the main thread is listed, and its
 -- links are followed when it is taken out. Marking the roots first empties gray, grayagain and weak. Assumes nothing.
-use Rattle.std.specs.Prelude.{ℕ}
+use Rattle.std.specs.Prelude.{ℕ, Some, None, Option}
 use Rattle.base.specs.Loop.{run}
-use Rattle.value.specs.declared.StrOr.{StrOr}
-use Rattle.value.specs.declared.StrOr.TheVariants.{Absent, Present}
+use Rattle.value.specs.declared.StrRef.{StrRef}
 use Rattle.lists.specs.declared.Item.TheVariants.{Main}
 use Rattle.main_record.specs.Main.{global, registry, mode_name, gc_name, type_meta}
 use Rattle.mark.specs.Ops.{gray, grayagain, weak, Ops}
@@ -13,9 +12,9 @@ module _ {S : Type 0} (O : Ops S) where
   unfoldable pub clear_lists : S → S
   clear_lists s = O.clear weak (O.clear grayagain (O.clear gray s))
 
-  unfoldable pub mark_string_or : StrOr → S → S
-  mark_string_or (Present r) s = mark_string O r s
-  mark_string_or Absent s = s
+  unfoldable pub mark_string_or : Option StrRef → S → S
+  mark_string_or (Some r) s = mark_string O r s
+  mark_string_or None s = s
 
   unfoldable pub mark_type : ℕ → S → S
   mark_type k s = mark_table_or O (type_meta k (O.body s)) s

@@ -3,15 +3,14 @@
 
 ghost use Rattle.std.specs.Prelude.{◌≡◌, ◌+◌, ◌≤◌, ◌<◌, length};
 ghost use Rattle.layout.specs.Layout.{lay_of};
-ghost use Rattle.laid.specs.Laid.{Laid};
 ghost use Rattle.mark.specs.Words.{ops};
 ghost use Rattle.propagate.specs.Propagation.{Costs, goes_on, propagate_item, propagate_one, rounds, propagate_all};
 ghost use Rattle.propagate.specs.Roots.{clear_lists, mark_string_or, mark_type, mark_types, mark_gc_roots, mark_roots};
 ghost use Rattle.propagate.specs.Barriers.{barrier_back, barrier_forward};
 
-use layout::Sizes;
-use lists::{Item, Popped};
-use value::{StrOr, TableRef, Value};
+use layout::Plan;
+use lists::Item;
+use value::{StrRef, TableRef, Value};
 
 // What one step answers: the cost of what was traversed; that the main thread is next; that nothing is gray.
 #[derive(Clone, Copy)]
@@ -22,11 +21,10 @@ pub enum Propagated {
 }
 
 // An item of no kind that is traversed is taken out at cost 0.
-pub fn propagate_item(w: &mut [u32], b: &[u8], l: Sizes, x: Item) -> Propagated
-    requires laid { Laid (lay_of l) }
-    requires l_in_bounds { (lay_of l).words ≤ length w.old }
-    requires l_in_bounds_2 { (lay_of l).bytes ≤ length b.now }
-    ensures { ((result, w.new) ≡ propagate_item (ops (lay_of l)) (lay_of l) b.now x w.old) × Costs result }
+pub fn propagate_item(w: &mut [u32], b: &[u8], l: Plan, x: Item) -> Propagated
+    requires l_in_bounds { (lay_of l.sizes).words ≤ length w.old }
+    requires l_in_bounds_2 { (lay_of l.sizes).bytes ≤ length b.now }
+    ensures { ((result, w.new) ≡ propagate_item (ops (lay_of l.sizes)) (lay_of l.sizes) b.now x w.old) × Costs result }
 {
     match x {
         Item::Table(r) => Propagated::Done(table_walk::traverse_table(w, b, l, r)),
@@ -39,15 +37,14 @@ pub fn propagate_item(w: &mut [u32], b: &[u8], l: Sizes, x: Item) -> Propagated
 }
 
 // The last gray item is taken out and traversed.
-pub fn propagate_one(w: &mut [u32], b: &[u8], l: Sizes) -> Propagated
-    requires laid { Laid (lay_of l) }
-    requires l_in_bounds { (lay_of l).words ≤ length w.old }
-    requires l_in_bounds_2 { (lay_of l).bytes ≤ length b.now }
-    ensures { ((result, w.new) ≡ propagate_one (ops (lay_of l)) (lay_of l) b.now w.old) × Costs result }
+pub fn propagate_one(w: &mut [u32], b: &[u8], l: Plan) -> Propagated
+    requires l_in_bounds { (lay_of l.sizes).words ≤ length w.old }
+    requires l_in_bounds_2 { (lay_of l.sizes).bytes ≤ length b.now }
+    ensures { ((result, w.new) ≡ propagate_one (ops (lay_of l.sizes)) (lay_of l.sizes) b.now w.old) × Costs result }
 {
     match lists::pop(w, layout::gray_of(l)) {
-        Popped::Got(x) => propagate_item(w, b, l, x),
-        Popped::Nothing => Propagated::Empty,
+        Some(x) => propagate_item(w, b, l, x),
+        None => Propagated::Empty,
     }
 }
 
@@ -62,78 +59,66 @@ fn goes_on(p: Propagated) -> bool
 }
 
 // A step takes one item out, and an item is listed only where a white slot becomes gray: so many steps are enough.
-fn rounds(l: Sizes) -> usize
-    requires { Laid (lay_of l) }
-    ensures { (result ≡ rounds (lay_of l)) × (result ≤ 24577) }
+fn rounds(l: Plan) -> usize
+    ensures { (result ≡ rounds (lay_of l.sizes)) × (result ≤ 24577) }
 {
-    2 * (l.tables + l.functions + l.threads) + 1
+    2 * (l.sizes.tables + l.sizes.functions + l.sizes.threads) + 1
 }
 
 // Until nothing is gray. The main thread costs nothing here: it was followed by the caller.
-pub fn propagate_all(w: &mut [u32], b: &[u8], l: Sizes)
-    requires laid { Laid (lay_of l) }
-    requires l_in_bounds { (lay_of l).words ≤ length w.old }
-    requires l_in_bounds_2 { (lay_of l).bytes ≤ length b.now }
-    ensures { w.new ≡ propagate_all (ops (lay_of l)) (lay_of l) b.now w.old }
+pub fn propagate_all(w: &mut [u32], b: &[u8], l: Plan)
+    requires l_in_bounds { (lay_of l.sizes).words ≤ length w.old }
+    requires l_in_bounds_2 { (lay_of l.sizes).bytes ≤ length b.now }
+    ensures { w.new ≡ propagate_all (ops (lay_of l.sizes)) (lay_of l.sizes) b.now w.old }
 {
-    let mut left = rounds(l);
-    while 0 < left {
+    for _ in 0..rounds(l) {
         if !goes_on(propagate_one(w, b, l)) {
             return;
         }
-        left -= 1;
     }
 }
 
 // Gray, grayagain and weak are emptied.
-pub fn clear_lists(w: &mut [u32], l: Sizes)
-    requires laid { Laid (lay_of l) }
-    requires l_in_bounds { (lay_of l).words ≤ length w.old }
-    ensures { w.new ≡ clear_lists (ops (lay_of l)) w.old }
+pub fn clear_lists(w: &mut [u32], l: Plan)
+    requires l_in_bounds { (lay_of l.sizes).words ≤ length w.old }
+    ensures { w.new ≡ clear_lists (ops (lay_of l.sizes)) w.old }
 {
     lists::clear_list(w, layout::gray_of(l));
     lists::clear_list(w, layout::grayagain_of(l));
     lists::clear_list(w, layout::weak_of(l));
 }
 
-fn mark_string_or(w: &mut [u32], l: Sizes, s: StrOr)
-    requires laid { Laid (lay_of l) }
-    requires l_in_bounds { (lay_of l).words ≤ length w.old }
-    ensures { w.new ≡ mark_string_or (ops (lay_of l)) s w.old }
+fn mark_string_or(w: &mut [u32], l: Plan, s: Option<StrRef>)
+    requires l_in_bounds { (lay_of l.sizes).words ≤ length w.old }
+    ensures { w.new ≡ mark_string_or (ops (lay_of l.sizes)) s w.old }
 {
-    match s {
-        StrOr::Present(r) => mark::mark_string(w, l, r),
-        StrOr::Absent => {}
+    if let Some(r) = s {
+        mark::mark_string(w, l, r);
     }
 }
 
-fn mark_type(w: &mut [u32], l: Sizes, k: usize)
-    requires laid { Laid (lay_of l) }
-    requires l_in_bounds { (lay_of l).words ≤ length w.old }
+fn mark_type(w: &mut [u32], l: Plan, k: usize)
+    requires l_in_bounds { (lay_of l.sizes).words ≤ length w.old }
     requires k_bound { k < 9 }
-    ensures { w.new ≡ mark_type (ops (lay_of l)) k w.old }
+    ensures { w.new ≡ mark_type (ops (lay_of l.sizes)) k w.old }
 {
     let t = main_record::type_meta(w, k);
     mark::mark_table_or(w, l, t);
 }
 
-fn mark_types(w: &mut [u32], l: Sizes)
-    requires laid { Laid (lay_of l) }
-    requires l_in_bounds { (lay_of l).words ≤ length w.old }
-    ensures { w.new ≡ mark_types (ops (lay_of l)) w.old }
+fn mark_types(w: &mut [u32], l: Plan)
+    requires l_in_bounds { (lay_of l.sizes).words ≤ length w.old }
+    ensures { w.new ≡ mark_types (ops (lay_of l.sizes)) w.old }
 {
-    let mut k: usize = 0;
-    while k < 9 {
+    for k in 0..9 {
         mark_type(w, l, k);
-        k += 1;
     }
 }
 
 // The type metatables and both names.
-fn mark_gc_roots(w: &mut [u32], l: Sizes)
-    requires laid { Laid (lay_of l) }
-    requires l_in_bounds { (lay_of l).words ≤ length w.old }
-    ensures { w.new ≡ mark_gc_roots (ops (lay_of l)) w.old }
+fn mark_gc_roots(w: &mut [u32], l: Plan)
+    requires l_in_bounds { (lay_of l.sizes).words ≤ length w.old }
+    ensures { w.new ≡ mark_gc_roots (ops (lay_of l.sizes)) w.old }
 {
     mark_types(w, l);
     let mode = main_record::mode_name(w);
@@ -143,10 +128,9 @@ fn mark_gc_roots(w: &mut [u32], l: Sizes)
 }
 
 // The main thread is listed first, to be traversed when it is taken out; then global, registry and the rest.
-pub fn mark_roots(w: &mut [u32], l: Sizes)
-    requires laid { Laid (lay_of l) }
-    requires l_in_bounds { (lay_of l).words ≤ length w.old }
-    ensures { w.new ≡ mark_roots (ops (lay_of l)) w.old }
+pub fn mark_roots(w: &mut [u32], l: Plan)
+    requires l_in_bounds { (lay_of l.sizes).words ≤ length w.old }
+    ensures { w.new ≡ mark_roots (ops (lay_of l.sizes)) w.old }
 {
     lists::push(w, layout::gray_of(l), Item::Main);
     let global = main_record::global(w);
@@ -157,10 +141,9 @@ pub fn mark_roots(w: &mut [u32], l: Sizes)
 }
 
 // A black table that is written to during Propagate is gray again, and is traversed once more in the atomic phase.
-pub fn barrier_back(w: &mut [u32], l: Sizes, r: TableRef)
-    requires laid { Laid (lay_of l) }
-    requires l_in_bounds { (lay_of l).words ≤ length w.old }
-    ensures { w.new ≡ barrier_back (ops (lay_of l)) r w.old }
+pub fn barrier_back(w: &mut [u32], l: Plan, r: TableRef)
+    requires l_in_bounds { (lay_of l.sizes).words ≤ length w.old }
+    ensures { w.new ≡ barrier_back (ops (lay_of l.sizes)) r w.old }
 {
     let tables = layout::tables_of(l);
     if base::get(w, layout::PHASE) != 1 {
@@ -174,10 +157,9 @@ pub fn barrier_back(w: &mut [u32], l: Sizes, r: TableRef)
 }
 
 // A child in the current white that is written into a black parent during Propagate is marked.
-pub fn barrier_forward(w: &mut [u32], l: Sizes, parent: u32, v: Value)
-    requires laid { Laid (lay_of l) }
-    requires l_in_bounds { (lay_of l).words ≤ length w.old }
-    ensures { w.new ≡ barrier_forward (ops (lay_of l)) (lay_of l) parent v w.old }
+pub fn barrier_forward(w: &mut [u32], l: Plan, parent: u32, v: Value)
+    requires l_in_bounds { (lay_of l.sizes).words ≤ length w.old }
+    ensures { w.new ≡ barrier_forward (ops (lay_of l.sizes)) (lay_of l.sizes) parent v w.old }
 {
     if base::get(w, layout::PHASE) != 1 {
         return;

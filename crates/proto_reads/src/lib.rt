@@ -8,7 +8,8 @@ ghost use Rattle.base.specs.Heap.{heap};
 ghost use Rattle.main_record.specs.Parts.{Parts};
 ghost use Rattle.proto_reads.specs.ProtoReads.{proto_in, proto_on, read_proto};
 
-use layout::{Opened, Sizes};
+use base::Refusal;
+use layout::Plan;
 use reads::Read;
 
 // A field of a prototype. `Parent` is its number + 1, 0 for none.
@@ -21,51 +22,53 @@ pub enum ProtoField {
     Child(u32),
 }
 
-fn proto_in(w: &[u32], l: Sizes, n: usize, q: ProtoField) -> Read
-    requires parts { Parts (lay_of l) (length w.now) }
-    requires n_bound { n < (lay_of l).protos.room }
-    ensures { result ≡ proto_in (lay_of l) n q w.now }
+fn proto_in(w: &[u32], l: Plan, n: usize, q: ProtoField) -> Result<Read, Refusal>
+    requires parts { Parts (lay_of l.sizes) (length w.now) }
+    requires n_bound { n < (lay_of l.sizes).protos.room }
+    ensures { result ≡ proto_in (lay_of l.sizes) n q w.now }
 {
     match q {
-        ProtoField::Constants => Read::Number(
+        ProtoField::Constants => Ok(Read::Number(
             main_record::prototypes::proto_constants(w, l, n) as u64,
-        ),
-        ProtoField::Nested => Read::Number(main_record::prototypes::proto_nested(w, l, n) as u64),
-        ProtoField::Parent => Read::Number(main_record::prototypes::proto_parent(w, l, n) as u64),
+        )),
+        ProtoField::Nested => Ok(Read::Number(
+            main_record::prototypes::proto_nested(w, l, n) as u64,
+        )),
+        ProtoField::Parent => Ok(Read::Number(
+            main_record::prototypes::proto_parent(w, l, n) as u64,
+        )),
         ProtoField::Constant(i) => {
             let k = base::wide(i);
             if main_record::prototypes::proto_constants(w, l, n) <= k {
-                return Read::Refused(4);
+                return Err(Refusal::OutOfRange);
             }
-            Read::Value(main_record::prototypes::proto_constant(w, l, n, k))
+            Ok(Read::Value(main_record::prototypes::proto_constant(w, l, n, k)))
         }
         ProtoField::Child(i) => {
             let k = base::wide(i);
             if main_record::prototypes::proto_nested(w, l, n) <= k {
-                return Read::Refused(4);
+                return Err(Refusal::OutOfRange);
             }
-            Read::Number(main_record::prototypes::proto_child(w, l, n, k) as u64)
+            Ok(Read::Number(main_record::prototypes::proto_child(w, l, n, k) as u64))
         }
     }
 }
 
-fn proto_on(w: &[u32], l: Sizes, n: u32, q: ProtoField) -> Read
-    requires { Parts (lay_of l) (length w.now) }
-    ensures { result ≡ proto_on (lay_of l) n q w.now }
+fn proto_on(w: &[u32], l: Plan, n: u32, q: ProtoField) -> Result<Read, Refusal>
+    requires { Parts (lay_of l.sizes) (length w.now) }
+    ensures { result ≡ proto_on (lay_of l.sizes) n q w.now }
 {
     let k = base::wide(n);
     if main_record::prototypes::protos_used(w, l) <= k {
-        return Read::Refused(4);
+        return Err(Refusal::OutOfRange);
     }
     proto_in(w, l, k, q)
 }
 
 // A field of a prototype, which is named by its number; 4 for a number that is not used.
-pub fn read_proto(w: &[u32], b: &[u8], n: u32, q: ProtoField) -> Read
+pub fn read_proto(w: &[u32], b: &[u8], n: u32, q: ProtoField) -> Result<Read, Refusal>
     ensures { result ≡ read_proto n q (heap w.now b.now) }
 {
-    match test1::enter(w, b) {
-        Opened::Fits(l) => proto_on(w, l, n, q),
-        Opened::Refused(n) => Read::Refused(n),
-    }
+    let l = test1::enter(w, b)?;
+    proto_on(w, l, n, q)
 }

@@ -6,14 +6,11 @@
 
 ghost use Rattle.std.specs.Prelude.{◌≤◌, ◌<◌};
 ghost use Rattle.layout.specs.Layout.{lay_of};
-ghost use Rattle.laid.specs.Laid.{Laid};
 
-use arena::Took;
-use layout::{Opened, Sizes};
+use layout::{Plan, Sizes};
 use main_record::prototypes::{
     set_proto_child, set_proto_constant, set_proto_counts, set_protos_used,
 };
-use newheap::Made;
 use part_reads::Slots;
 use print::{count, say};
 use reads::{Kind, Read};
@@ -34,42 +31,35 @@ const SIZES: Sizes = Sizes {
 };
 
 // Prototype n nests the one below it eight times.
-fn nest(w: &mut [u32; 16472], l: Sizes, n: usize)
-    requires laid { Laid (lay_of l) }
-    requires l_bound { (lay_of l).words ≤ 16472 }
-    requires n_nonzero { (0 < n) × (n < 256) × (n < (lay_of l).protos.room) }
+fn nest(w: &mut [u32; 16472], l: Plan, n: usize)
+    requires l_bound { (lay_of l.sizes).words ≤ 16472 }
+    requires n_nonzero { (0 < n) × (n < 256) × (n < (lay_of l.sizes).protos.room) }
 {
     set_proto_counts(w, l, n, 0, 8);
-    let mut k: usize = 0;
-    while k < 8 {
+    for k in 0..8 {
         set_proto_child(w, l, n, k, n - 1);
-        k += 1;
     }
 }
 
-fn nest_all(w: &mut [u32; 16472], l: Sizes)
-    requires laid { Laid (lay_of l) }
-    requires l_bound { (lay_of l).words ≤ 16472 }
+fn nest_all(w: &mut [u32; 16472], l: Plan)
+    requires l_bound { (lay_of l.sizes).words ≤ 16472 }
 {
     set_protos_used(w, 256);
-    let mut n: usize = 1;
-    while n < 256 {
-        if l.protos <= n {
+    for n in 1..256 {
+        if l.sizes.protos <= n {
             return;
         }
         nest(w, l, n);
-        n += 1;
     }
 }
 
 // The lowest has one constant, string 2, which nothing else has.
-fn put_constant(rt: &impl Print, w: &mut [u32; 16472], l: Sizes) -> io::Result<()>
-    requires laid { Laid (lay_of l) }
-    requires l_bound { (lay_of l).words ≤ 16472 }
+fn put_constant(rt: &impl Print, w: &mut [u32; 16472], l: Plan) -> io::Result<()>
+    requires l_bound { (lay_of l.sizes).words ≤ 16472 }
 {
     match arena::take_slot(w, layout::strings_of(l), 1, 1) {
-        Took::Slot(_, _) => {
-            if 0 < l.protos {
+        Ok((_, _)) => {
+            if 0 < l.sizes.protos {
                 set_proto_counts(w, l, 0, 1, 0);
                 set_proto_constant(w, l, 0, 0, Value::Str(StrRef(2, 0)));
             }
@@ -80,25 +70,23 @@ fn put_constant(rt: &impl Print, w: &mut [u32; 16472], l: Sizes) -> io::Result<(
 }
 
 // The closure, with neither env nor upvalues, is the main stack's only value. It is function 0.
-fn push_closure(w: &mut [u32; 16472], l: Sizes, i: usize)
-    requires laid { Laid (lay_of l) }
-    requires l_bound { (lay_of l).words ≤ 16472 }
-    requires i_bound { i < (lay_of l).functions.slots }
+fn push_closure(w: &mut [u32; 16472], l: Plan, i: usize)
+    requires l_bound { (lay_of l.sizes).words ≤ 16472 }
+    requires i_bound { i < (lay_of l.sizes).functions.slots }
 {
     let p = record::body_of(w, layout::functions_of(l), i);
     run_record::closures::set_closure_proto(w, p, 255);
-    if 0 < l.stack {
+    if 0 < l.sizes.stack {
         main_record::set_main_value(w, l, 0, Value::Function(FuncRef(0, 0)));
         main_record::set_main_top(w, 1);
     }
 }
 
-fn make_closure(rt: &impl Print, w: &mut [u32; 16472], l: Sizes) -> io::Result<()>
-    requires laid { Laid (lay_of l) }
-    requires l_bound { (lay_of l).words ≤ 16472 }
+fn make_closure(rt: &impl Print, w: &mut [u32; 16472], l: Plan) -> io::Result<()>
+    requires l_bound { (lay_of l.sizes).words ≤ 16472 }
 {
     match arena::take_slot(w, layout::functions_of(l), 1, 5) {
-        Took::Slot(i, _) => {
+        Ok((i, _)) => {
             push_closure(w, l, i);
             Ok(())
         }
@@ -108,7 +96,7 @@ fn make_closure(rt: &impl Print, w: &mut [u32; 16472], l: Sizes) -> io::Result<(
 
 fn is_black(w: &[u32], b: &[u8], k: Kind, i: u32) -> bool {
     match part_reads::read_arena(w, b, k, Slots::Colour(i)) {
-        Read::Number(n) => n == 4,
+        Ok(Read::Number(n)) => n == 4,
         _ => false,
     }
 }
@@ -133,20 +121,17 @@ fn traversed(rt: &impl Print, w: &[u32], b: &[u8], n: u32) -> io::Result<()> {
 }
 
 fn walk(rt: &impl Print, w: &mut [u32; 16472], b: &mut [u8; 192]) -> io::Result<()> {
-    let mut n: u32 = 1;
-    while n < 100 {
+    for n in 1..100 {
         step(rt, w, b, n)?;
         if is_black(w, b, Kind::Functions, 0) {
             return traversed(rt, w, b, n);
         }
-        n += 1;
     }
     say(rt, b"not traversed in 99 steps\n")
 }
 
-fn walk_in(rt: &impl Print, w: &mut [u32; 16472], b: &mut [u8; 192], l: Sizes) -> io::Result<()>
-    requires laid { Laid (lay_of l) }
-    requires l_bound { (lay_of l).words ≤ 16472 }
+fn walk_in(rt: &impl Print, w: &mut [u32; 16472], b: &mut [u8; 192], l: Plan) -> io::Result<()>
+    requires l_bound { (lay_of l.sizes).words ≤ 16472 }
 {
     nest_all(w, l);
     put_constant(rt, w, l)?;
@@ -156,13 +141,13 @@ fn walk_in(rt: &impl Print, w: &mut [u32; 16472], b: &mut [u8; 192], l: Sizes) -
 
 fn show(rt: &impl Print, w: &mut [u32; 16472], b: &mut [u8; 192]) -> io::Result<()> {
     match layout::plan(SIZES) {
-        Opened::Fits(l) => {
+        Ok(l) => {
             if 16472 < layout::words_of(l) {
                 return say(rt, b"too few words\n");
             }
             walk_in(rt, w, b, l)
         }
-        Opened::Refused(n) => count(rt, b"refused ", n, b"\n"),
+        Err(n) => count(rt, b"refused ", n.number(), b"\n"),
     }
 }
 
@@ -170,7 +155,7 @@ fn main(rt: HostRuntime) -> io::Result<()> {
     let mut w = [0u32; 16472];
     let mut b = [0u8; 192];
     match newheap::make_heap(&mut w, &mut b, SIZES) {
-        Made::Done => show(&rt, &mut w, &mut b),
-        Made::Refused(n) => count(&rt, b"refused ", n, b"\n"),
+        Ok(()) => show(&rt, &mut w, &mut b),
+        Err(n) => count(&rt, b"refused ", n.number(), b"\n"),
     }
 }

@@ -5,7 +5,7 @@
 --     follow_ok                       a marked slot is painted black, and its links are to be marked
 --     table_ok, closure_ok, thread_ok, main_ok      the traversals
 --     pop_ok, one_ok, for_ok          an item taken off gray; a step, and any number of steps
-use Rattle.std.specs.Prelude.{◌≡◌, Bool, cond, ◌⊎◌, ◌≢◌, eqb, length}
+use Rattle.std.specs.Prelude.{◌≡◌, Bool, cond, ◌⊎◌, ◌≢◌, eqb, length, Option}
 use Rattle.std.proofs.Math.Path.{refl}
 use Rattle.std.proofs.Common.{sym, ap, subst, ◌∙◌, inl, inr, ⊎_elim, arith}
 use Rattle.std.proofs.Math.Bool.{true, false}
@@ -21,7 +21,6 @@ use Rattle.value.specs.declared.ThreadRef.{ThreadRef}
 use Rattle.layout.specs.declared.Lay.{Lay}
 use Rattle.lists.specs.declared.Item.{Item}
 use Rattle.lists.specs.declared.Item.TheVariants.{Table, Function, Userdata, Thread, Main, Unknown}
-use Rattle.lists.specs.declared.Popped.{Popped}
 use Rattle.lists.specs.Lists.{kind_of, length_of, item_at, push, pop, taken}
 use Rattle.lists.proofs.Laws.{item_found, pop_some}
 use Rattle.record.specs.Fields.{body_at}
@@ -285,7 +284,7 @@ module _ (l : Lay) (ok : Laid l) (a : Apart l) (am : Ample l) (w b : List ℕ) (
       u_long = whole_long l ok a am w long c.whole
 
       rest_is : (pop l.gray u).1 ≡ rest
-      rest_is = ap (λ (x : Popped × List ℕ). x.1) (pop_some l.gray u d)
+      rest_is = ap (λ (x : Option Item × List ℕ). x.1) (pop_some l.gray u d)
 
       rest_marked : Marked l u rest
       rest_marked = moves_marked l ok a (popped (still refl) gray (sym rest_is)) u_long

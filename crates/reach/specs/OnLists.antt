@@ -2,13 +2,12 @@
 --     On, on_same, on_none             an item stands on a list; it does where the list's words stay; on an empty list none does
 --     push_new, push_old, push_was     a push within the room: the new item, those before, and no other
 --     pop_old, pop_was                 a pop: those that are left were there, and no other went but the last
-use Rattle.std.specs.Prelude.{◌≡◌, refl, List as Words, ◌⊎◌, ◌≢◌, ℕ, min, ◌+◌, ◌-◌, ◌≤◌, ◌<◌}
+use Rattle.std.specs.Prelude.{◌≡◌, refl, List as Words, ◌⊎◌, ◌≢◌, ℕ, min, ◌+◌, ◌-◌, ◌≤◌, ◌<◌, Option}
 use Rattle.std.proofs.Common.{sym, ap, subst, ◌∙◌, inl, inr, arith}
 use Rattle.std.proofs.Math.Decide.{dec_lt}
 use Rattle.base.specs.Words.{at}
 use Rattle.layout.specs.declared.List.{List}
 use Rattle.lists.specs.declared.Item.{Item}
-use Rattle.lists.specs.declared.Popped.{Popped}
 use Rattle.lists.specs.Lists.{RoomFor, item_in, length_of, place, item_at, push, taken}
 use Rattle.lists.specs.Laws.{Apart}
 use Rattle.lists.proofs.Laws.{item_three, item_found, stored_item, push_stored, push_length, push_full_length, push_items, taken_kept, pop_some, pop_length}
@@ -76,7 +75,7 @@ module _ (b : List) where
   -- A pop of a list that has an item.
   module _ (u : Words ℕ) (ok : RoomFor b u) (d : length_of b u ≢ 0) where
     rest_length : length_of b (taken b (length_of b u - 1) u) ≡ length_of b u - 1
-    rest_length = ap (λ (x : Popped × Words ℕ). length_of b x.1) (sym (pop_some b u d)) ∙ pop_length b u ok
+    rest_length = ap (λ (x : Option Item × Words ℕ). length_of b x.1) (sym (pop_some b u d)) ∙ pop_length b u ok
 
     rest_item : (i : ℕ) → i < length_of b u - 1 → item_in (taken b (length_of b u - 1) u) (place b i) ≡ item_in u (place b i)
     rest_item i h = item_three (place b i) (taken b (length_of b u - 1) u) u (kept (place b i) (omega arith) (omega (arith, h))) (kept (place b i + 1) (omega arith) (omega (arith, h))) (kept (place b i + 2) (omega arith) (omega (arith, h)))

@@ -1,15 +1,17 @@
 -- Public reads of the header: an answer for each counter, size and root, and for the finalizer that is out. They give 1, 8, then
 -- 4 for an index outside its range, and change nothing. Assumes nothing.
-use Rattle.std.specs.Prelude.{Bool, List as Words, ℕ, ◌+◌, ◌*◌, ◌<◌}
+use Rattle.std.specs.Prelude.{Bool, List as Words, ℕ, ◌+◌, ◌*◌, ◌<◌, Ok, Err, Result}
 use Rattle.base.specs.Ways.{if_lt}
 use Rattle.base.specs.Words.{at, get64}
 use Rattle.base.specs.Heap.{Heap}
+use Rattle.base.specs.declared.Refusal.TheVariants.{OutOfRange}
+use Rattle.base.specs.declared.Refusal.{Refusal}
 use Rattle.value.specs.Values.{word_of}
 use Rattle.value.specs.Handles.{table_or_at, str_or_at, ud_or_at}
 use Rattle.layout.specs.Places.{SIZES, PROTOTYPES, GLOBAL, REGISTRY, NAME_MODE, NAME_GC, METATABLES, LIMIT, PAUSE, STEPMUL, CREATION, PHASE, WHITE, CURSOR_ARENA, CURSOR_SLOT, TOTAL, PEAK, ESTIMATE, THRESHOLD, DEBT, INTERRUPTED, OUT, REMAINING}
 use Rattle.test1.specs.Calls.{ask}
 use Rattle.reads.specs.declared.Read.{Read}
-use Rattle.reads.specs.declared.Read.TheVariants.{Number, Table, Str, Userdata, Refused}
+use Rattle.reads.specs.declared.Read.TheVariants.{Number, Table, Str, Userdata}
 use Rattle.reads.specs.declared.Counter.{Counter}
 use Rattle.reads.specs.declared.Counter.TheVariants as counter
 use Rattle.reads.specs.declared.Field.{Field}
@@ -20,12 +22,12 @@ use Rattle.reads.specs.declared.Root.{Root}
 use Rattle.reads.specs.declared.Root.TheVariants as root
 
 -- A number that stands at a place.
-abbrev pub number_read : ℕ → Words ℕ → Read
-number_read p w = Number (at w p)
+abbrev pub number_read : ℕ → Words ℕ → Result Read Refusal
+number_read p w = Ok (Number (at w p))
 
 -- 1 for yes, 0 for no.
-abbrev pub flag_read : Bool → Read
-flag_read b = Number (word_of b)
+abbrev pub flag_read : Bool → Result Read Refusal
+flag_read b = Ok (Number (word_of b))
 
 -- Where each counter stands: one word, or two, the low one first.
 abbrev pub field_of : Counter → Field
@@ -50,15 +52,15 @@ abbrev pub InHeader : Field → Type 0
 InHeader (Short p) = p < 90
 InHeader (Long p) = p < 90
 
-abbrev pub field_in : Field → Words ℕ → Read
+abbrev pub field_in : Field → Words ℕ → Result Read Refusal
 field_in (Short p) w = number_read p w
-field_in (Long p) w = Number (get64 w p)
+field_in (Long p) w = Ok (Number (get64 w p))
 
-unfoldable pub counter_in : Counter → Words ℕ → Read
+unfoldable pub counter_in : Counter → Words ℕ → Result Read Refusal
 counter_in c w = field_in (field_of c) w
 
-abbrev pub read_counter : Counter → Heap → Read
-read_counter c = ask Refused (λ l h. counter_in c h.words)
+abbrev pub read_counter : Counter → Heap → Result Read Refusal
+read_counter c = ask Err (λ l h. counter_in c h.words)
 
 -- The ten chosen sizes stand first in the header, in the order of `Sizes`.
 abbrev pub size_place : Size → ℕ
@@ -73,20 +75,20 @@ size_place size.Stack = SIZES + 7
 size_place size.Opens = SIZES + 8
 size_place size.Frames = SIZES + 9
 
-abbrev pub read_size : Size → Heap → Read
-read_size q = ask Refused (λ l h. number_read (size_place q) h.words)
+abbrev pub read_size : Size → Heap → Result Read Refusal
+read_size q = ask Err (λ l h. number_read (size_place q) h.words)
 
 -- While a finalizer is out the header keeps its userdata.
-abbrev pub read_out : Heap → Read
-read_out = ask Refused (λ l h. Userdata (ud_or_at h.words OUT))
+abbrev pub read_out : Heap → Result Read Refusal
+read_out = ask Err (λ l h. Ok (Userdata (ud_or_at h.words OUT)))
 
 -- Roots: global, registry, both names, nine type metatables.
-abbrev pub root_in : Root → Words ℕ → Read
-root_in root.Global w = Table (table_or_at w GLOBAL)
-root_in root.Registry w = Table (table_or_at w REGISTRY)
-root_in root.Mode w = Str (str_or_at w NAME_MODE)
-root_in root.Gc w = Str (str_or_at w NAME_GC)
-root_in (root.Type k) w = if_lt k 9 (Table (table_or_at w (METATABLES + 2 * k))) (Refused 4)
+abbrev pub root_in : Root → Words ℕ → Result Read Refusal
+root_in root.Global w = Ok (Table (table_or_at w GLOBAL))
+root_in root.Registry w = Ok (Table (table_or_at w REGISTRY))
+root_in root.Mode w = Ok (Str (str_or_at w NAME_MODE))
+root_in root.Gc w = Ok (Str (str_or_at w NAME_GC))
+root_in (root.Type k) w = if_lt k 9 (Ok (Table (table_or_at w (METATABLES + 2 * k)))) (Err OutOfRange)
 
-abbrev pub read_root : Root → Heap → Read
-read_root q = ask Refused (λ l h. root_in q h.words)
+abbrev pub read_root : Root → Heap → Result Read Refusal
+read_root q = ask Err (λ l h. root_in q h.words)

@@ -3,29 +3,28 @@
 #![tactic(auto)]
 
 ghost use Rattle.std.specs.Prelude.{◌≡◌, ◌≤◌, ◌<◌, length};
-ghost use Rattle.layout.specs.Sizes.{SizesOk};
 ghost use Rattle.layout.specs.Layout.{lay_of};
 ghost use Rattle.base.specs.Heap.{heap};
 ghost use Rattle.arena.specs.Slots.{Room};
 ghost use Rattle.reads.specs.Reads.{number_read, flag_read, field_of, InHeader, counter_in, read_counter, size_place, read_size, read_out, root_in, read_root};
 ghost use Rattle.reads.specs.Objects.{arena_of, Lies, Holds, found_in, found};
 
-use arena::{Arena, Named};
-use layout::{Opened, Sizes};
+use arena::Arena;
+use base::Refusal;
+use layout::Plan;
 use lists::Item;
-use value::{StrOr, TableOr, UdOr, UpvalRef, Value};
+use value::{StrRef, TableRef, UdRef, UpvalRef, Value};
 
 // What a read answers.
 #[derive(Clone, Copy)]
 pub enum Read {
     Number(u64),
     Value(Value),
-    Table(TableOr),
-    Str(StrOr),
+    Table(Option<TableRef>),
+    Str(Option<StrRef>),
     Upvalue(UpvalRef),
     Item(Item),
-    Userdata(UdOr),
-    Refused(u32),
+    Userdata(Option<UdRef>),
 }
 
 // A counter, setting or mark of the header.
@@ -96,26 +95,23 @@ pub enum Kind {
     Threads,
 }
 
-// What a handle names: its slot and the place of its body. Or the number of a refusal.
-#[derive(Clone, Copy)]
-pub enum Found {
-    At(usize, usize),
-    Refused(u32),
-}
-
 // A word of the words as a number that is read.
-pub fn number_read(w: &[u32], p: usize) -> Read
+pub fn number_read(w: &[u32], p: usize) -> Result<Read, Refusal>
     requires { p < length w.now }
     ensures { result ≡ number_read p w.now }
 {
-    Read::Number(base::get(w, p) as u64)
+    Ok(Read::Number(base::get(w, p) as u64))
 }
 
 // 1 for yes, 0 for no.
-pub fn flag_read(b: bool) -> Read
+pub fn flag_read(b: bool) -> Result<Read, Refusal>
     ensures { result ≡ flag_read b }
 {
-    if b { Read::Number(1) } else { Read::Number(0) }
+    if b {
+        Ok(Read::Number(1))
+    } else {
+        Ok(Read::Number(0))
+    }
 }
 
 fn field_of(c: Counter) -> Field
@@ -141,24 +137,22 @@ fn field_of(c: Counter) -> Field
     }
 }
 
-fn counter_in(w: &[u32], c: Counter) -> Read
+fn counter_in(w: &[u32], c: Counter) -> Result<Read, Refusal>
     requires { 91 ≤ length w.now }
     ensures { result ≡ counter_in c w.now }
 {
     match field_of(c) {
         Field::Short(p) => number_read(w, p),
-        Field::Long(p) => Read::Number(base::get64(w, p)),
+        Field::Long(p) => Ok(Read::Number(base::get64(w, p))),
     }
 }
 
 // A counter, setting or mark.
-pub fn read_counter(w: &[u32], b: &[u8], c: Counter) -> Read
+pub fn read_counter(w: &[u32], b: &[u8], c: Counter) -> Result<Read, Refusal>
     ensures { result ≡ read_counter c (heap w.now b.now) }
 {
-    match test1::enter(w, b) {
-        Opened::Fits(_) => counter_in(w, c),
-        Opened::Refused(n) => Read::Refused(n),
-    }
+    test1::enter(w, b)?;
+    counter_in(w, c)
 }
 
 // The sizes are the first words of the header.
@@ -180,56 +174,52 @@ fn size_place(q: Size) -> usize
 }
 
 // One of the ten sizes.
-pub fn read_size(w: &[u32], b: &[u8], q: Size) -> Read
+pub fn read_size(w: &[u32], b: &[u8], q: Size) -> Result<Read, Refusal>
     ensures { result ≡ read_size q (heap w.now b.now) }
 {
-    match test1::enter(w, b) {
-        Opened::Fits(_) => number_read(w, size_place(q)),
-        Opened::Refused(n) => Read::Refused(n),
-    }
+    test1::enter(w, b)?;
+    number_read(w, size_place(q))
 }
 
 // The userdata whose finalizer is out.
-pub fn read_out(w: &[u32], b: &[u8]) -> Read
+pub fn read_out(w: &[u32], b: &[u8]) -> Result<Read, Refusal>
     ensures { result ≡ read_out (heap w.now b.now) }
 {
-    match test1::enter(w, b) {
-        Opened::Fits(_) => Read::Userdata(value::read_ud_or(w, layout::OUT)),
-        Opened::Refused(n) => Read::Refused(n),
-    }
+    test1::enter(w, b)?;
+    Ok(Read::Userdata(value::read_ud_or(w, layout::OUT)))
 }
 
-fn root_in(w: &[u32], r: Root) -> Read
+fn root_in(w: &[u32], r: Root) -> Result<Read, Refusal>
     requires { 91 ≤ length w.now }
     ensures { result ≡ root_in r w.now }
 {
     match r {
-        Root::Global => Read::Table(value::read_table_or(w, layout::GLOBAL)),
-        Root::Registry => Read::Table(value::read_table_or(w, layout::REGISTRY)),
-        Root::Mode => Read::Str(value::read_str_or(w, layout::NAME_MODE)),
-        Root::Gc => Read::Str(value::read_str_or(w, layout::NAME_GC)),
+        Root::Global => Ok(Read::Table(value::read_table_or(w, layout::GLOBAL))),
+        Root::Registry => Ok(Read::Table(value::read_table_or(w, layout::REGISTRY))),
+        Root::Mode => Ok(Read::Str(value::read_str_or(w, layout::NAME_MODE))),
+        Root::Gc => Ok(Read::Str(value::read_str_or(w, layout::NAME_GC))),
         Root::Type(k) => {
             if k < 9 {
-                return Read::Table(value::read_table_or(w, layout::METATABLES + 2 * base::wide(k)));
+                return Ok(Read::Table(value::read_table_or(
+                    w,
+                    layout::METATABLES + 2 * base::wide(k),
+                )));
             }
-            Read::Refused(4)
+            Err(Refusal::OutOfRange)
         }
     }
 }
 
 // A root that is a handle; 4 for a type past the ninth.
-pub fn read_root(w: &[u32], b: &[u8], q: Root) -> Read
+pub fn read_root(w: &[u32], b: &[u8], q: Root) -> Result<Read, Refusal>
     ensures { result ≡ read_root q (heap w.now b.now) }
 {
-    match test1::enter(w, b) {
-        Opened::Fits(_) => root_in(w, q),
-        Opened::Refused(n) => Read::Refused(n),
-    }
+    test1::enter(w, b)?;
+    root_in(w, q)
 }
 
-pub fn arena_of(l: Sizes, k: Kind) -> Arena
-    requires { SizesOk l }
-    ensures { result ≡ arena_of (lay_of l) k }
+pub fn arena_of(l: Plan, k: Kind) -> Arena
+    ensures { result ≡ arena_of (lay_of l.sizes) k }
 {
     match k {
         Kind::Strings => layout::strings_of(l),
@@ -241,22 +231,20 @@ pub fn arena_of(l: Sizes, k: Kind) -> Arena
     }
 }
 
-fn find_in(w: &[u32], a: Arena, i: u32, g: u32) -> Found
+fn find_in(w: &[u32], a: Arena, i: u32, g: u32) -> Result<(usize, usize), Refusal>
     requires { Room a w.now }
     ensures { (result ≡ found_in a i g w.now) × Lies a result (length w.now) }
 {
     match arena::name_of(w, a, i, g) {
-        Named::At(j) => Found::At(j, record::body_of(w, a, j)),
-        Named::Stale => Found::Refused(2),
+        Some(j) => Ok((j, record::body_of(w, a, j))),
+        None => Err(Refusal::Stale),
     }
 }
 
 // What the handle of an object names, index i and generation g: 1 and 8 first, then 2. All reads of objects begin so.
-pub fn find(w: &[u32], b: &[u8], k: Kind, i: u32, g: u32) -> Found
+pub fn find(w: &[u32], b: &[u8], k: Kind, i: u32, g: u32) -> Result<(usize, usize), Refusal>
     ensures { (result ≡ found k i g (heap w.now b.now)) × Holds k result (length w.now) (length b.now) }
 {
-    match test1::enter(w, b) {
-        Opened::Fits(l) => find_in(w, arena_of(l, k), i, g),
-        Opened::Refused(n) => Found::Refused(n),
-    }
+    let l = test1::enter(w, b)?;
+    find_in(w, arena_of(l, k), i, g)
 }

@@ -5,18 +5,18 @@
 --     4 ..      the array's values, 3 words each
 --     then      the nodes, 6 words each: key, value. They begin at 4 + 3 * array.
 -- Assumes nothing.
-use Rattle.std.specs.Prelude.{List, ℕ, ◌+◌, ◌*◌}
+use Rattle.std.specs.Prelude.{List, ℕ, ◌+◌, ◌*◌, Option}
 use Rattle.base.specs.Ways.{if_eq}
 use Rattle.base.specs.Words.{at, put, bounded}
+use Rattle.value.specs.declared.TableRef.{TableRef}
 use Rattle.value.specs.declared.Value.{Value}
-use Rattle.value.specs.declared.TableOr.{TableOr}
 use Rattle.value.specs.Values.{value_at, put_value}
 use Rattle.value.specs.Handles.{table_or_at, put_table_or}
 
-abbrev pub table_meta : ℕ → List ℕ → TableOr
+abbrev pub table_meta : ℕ → List ℕ → Option TableRef
 table_meta p w = table_or_at w p
 
-abbrev pub set_table_meta : ℕ → TableOr → List ℕ → List ℕ
+abbrev pub set_table_meta : ℕ → Option TableRef → List ℕ → List ℕ
 set_table_meta p t w = put_table_or p t w
 
 -- A size outside its range reads as 0.

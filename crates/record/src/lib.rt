@@ -52,7 +52,7 @@ pub fn count_at(w: &[u32], p: usize, most: usize) -> usize
 pub fn least(x: usize, y: usize) -> usize
     ensures { result ≡ min x y }
 {
-    if x < y { x } else { y }
+    x.min(y)
 }
 
 // Whether 1 stands at p.

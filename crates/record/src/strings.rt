@@ -35,42 +35,19 @@ pub fn text_put(b: &mut [u8], i: usize, s: &[u8])
 {
     let from = 64 * i;
     let n = s.len();
-    let mut k: usize = 0;
-    while k < n {
-        b[from + k] = s[k];
-        k += 1;
-    }
+    b[from..from + n].copy_from_slice(s);
 }
 
 // The byte search.
 pub fn has_byte(s: &[u8], c: u8) -> bool
     ensures { result ≡ has_byte s.now c }
 {
-    let n = s.len();
-    let mut k: usize = 0;
-    while k < n {
-        if s[k] == c {
-            return true;
-        }
-        k += 1;
-    }
-    false
+    s.contains(&c)
 }
 
 // Comparison.
 pub fn same_bytes(s: &[u8], t: &[u8]) -> bool
     ensures { result ≡ same_bytes s.now t.now }
 {
-    let n = s.len();
-    if n != t.len() {
-        return false;
-    }
-    let mut k: usize = 0;
-    while k < n {
-        if s[k] != t[k] {
-            return false;
-        }
-        k += 1;
-    }
-    true
+    s == t
 }

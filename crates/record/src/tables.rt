@@ -2,16 +2,16 @@
 ghost use Rattle.std.specs.Prelude.{◌≡◌, ◌+◌, ◌≤◌, ◌<◌, length};
 ghost use Rattle.record.specs.Tables.{table_meta, set_table_meta, array_size, node_number, node_count, set_table_sizes, table_extent, array_value, set_array_value, node_place, node_key, node_value, put_node, set_node, set_node_value};
 
-use value::{TableOr, Value};
+use value::{TableRef, Value};
 
-pub fn table_meta(w: &[u32], p: usize) -> TableOr
+pub fn table_meta(w: &[u32], p: usize) -> Option<TableRef>
     requires { p + 580 ≤ length w.now }
     ensures { result ≡ table_meta p w.now }
 {
     value::read_table_or(w, p)
 }
 
-pub fn set_table_meta(w: &mut [u32], p: usize, t: TableOr)
+pub fn set_table_meta(w: &mut [u32], p: usize, t: Option<TableRef>)
     requires { p + 580 ≤ length w.old }
     ensures { w.new ≡ set_table_meta p t w.old }
 {

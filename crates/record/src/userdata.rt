@@ -2,30 +2,30 @@
 ghost use Rattle.std.specs.Prelude.{◌≡◌, ◌+◌, ◌≤◌, length};
 ghost use Rattle.record.specs.Userdata.{ud_meta, set_ud_meta, ud_env, set_ud_env, ud_creation, set_ud_creation, ud_finalized, set_ud_finalized};
 
-use value::TableOr;
+use value::TableRef;
 
-pub fn ud_meta(w: &[u32], p: usize) -> TableOr
+pub fn ud_meta(w: &[u32], p: usize) -> Option<TableRef>
     requires { p + 7 ≤ length w.now }
     ensures { result ≡ ud_meta p w.now }
 {
     value::read_table_or(w, p)
 }
 
-pub fn set_ud_meta(w: &mut [u32], p: usize, t: TableOr)
+pub fn set_ud_meta(w: &mut [u32], p: usize, t: Option<TableRef>)
     requires { p + 7 ≤ length w.old }
     ensures { w.new ≡ set_ud_meta p t w.old }
 {
     value::write_table_or(w, p, t);
 }
 
-pub fn ud_env(w: &[u32], p: usize) -> TableOr
+pub fn ud_env(w: &[u32], p: usize) -> Option<TableRef>
     requires { p + 7 ≤ length w.now }
     ensures { result ≡ ud_env p w.now }
 {
     value::read_table_or(w, p + 2)
 }
 
-pub fn set_ud_env(w: &mut [u32], p: usize, t: TableOr)
+pub fn set_ud_env(w: &mut [u32], p: usize, t: Option<TableRef>)
     requires { p + 7 ≤ length w.old }
     ensures { w.new ≡ set_ud_env p t w.old }
 {

@@ -1,11 +1,11 @@
 -- The main record and the prototypes: each writer of a prototype stores within its own 59 words; the parts past the boundary,
 -- written to, leave all words below it, and the header, written to, leaves all from the boundary on. Assumes nothing.
-use Rattle.std.specs.Prelude.{◌≡◌, List, ◌≢◌, ℕ, ◌+◌, ◌*◌, ◌≤◌, ◌<◌, take, drop}
+use Rattle.std.specs.Prelude.{◌≡◌, List, ◌≢◌, ℕ, ◌+◌, ◌*◌, ◌≤◌, ◌<◌, take, drop, Option}
 use Rattle.std.proofs.Common.{inl, inr, arith}
 use Rattle.std.proofs.Math.Decide.{dec_lt}
 use Rattle.base.specs.Words.{put}
+use Rattle.value.specs.declared.TableRef.{TableRef}
 use Rattle.value.specs.declared.Value.{Value}
-use Rattle.value.specs.declared.TableOr.{TableOr}
 use Rattle.value.specs.declared.UpvalRef.{UpvalRef}
 use Rattle.layout.specs.declared.Lay.{Lay}
 use Rattle.layout.specs.Places.{METATABLES}
@@ -52,5 +52,5 @@ module _ (l : Lay) (i : ℕ) (w : List ℕ) where
 pub main_top_past : (n d : ℕ) (w : List ℕ) → 91 ≤ d → drop d (set_main_top n w) ≡ drop d w
 main_top_past n d w h = past_stays (only_put 11 n w) d (omega arith)
 
-pub type_meta_past : (k d : ℕ) (t : TableOr) (w : List ℕ) → k < 9 → 91 ≤ d → drop d (set_type_meta k t w) ≡ drop d w
+pub type_meta_past : (k d : ℕ) (t : Option TableRef) (w : List ℕ) → k < 9 → 91 ≤ d → drop d (set_type_meta k t w) ≡ drop d w
 type_meta_past k d t w h g = past_stays (only_table (METATABLES + 2 * k) t w) d (omega arith)

@@ -1,13 +1,11 @@
 -- What is written is read back, for each kind of field. (`value_back` and `handle_back` stand with values.) Assumes nothing.
-use Rattle.std.specs.Prelude.{◌≡◌, refl, Bool, true, false, List, ℕ, ◌+◌, ◌/◌, ◌%◌, ◌≤◌, ◌<◌, eqb, ltb, length}
+use Rattle.std.specs.Prelude.{◌≡◌, refl, Bool, true, false, List, ℕ, ◌+◌, ◌/◌, ◌%◌, ◌≤◌, ◌<◌, eqb, ltb, length, Some, None, Option}
 use Rattle.std.proofs.Common.{sym, ◌∙◌, arith, length-set, get_or-set_same, get_or-set_other}
 use Rattle.std.proofs.Math.Nat.{mod-add-div'}
 use Rattle.base.specs.Ways.{le_yes}
 use Rattle.base.specs.Words.{at, put, bounded, get64, put64}
-use Rattle.value.specs.declared.TableOr.{TableOr}
-use Rattle.value.specs.declared.TableOr.TheVariants.{Absent as NoTable, Present as SomeTable}
-use Rattle.value.specs.declared.StrOr.{StrOr}
-use Rattle.value.specs.declared.StrOr.TheVariants.{Absent as NoStr, Present as SomeStr}
+use Rattle.value.specs.declared.StrRef.{StrRef}
+use Rattle.value.specs.declared.TableRef.{TableRef}
 use Rattle.value.specs.declared.UpvalRef.{UpvalRef}
 use Rattle.value.specs.Values.{word_of}
 use Rattle.value.specs.Handles.{table_or, table_in, table_or_at, put_table_or, str_or, str_in, str_or_at, put_str_or}
@@ -52,16 +50,16 @@ flag_set p b w h = rw (word_back p (word_of b) w h) (some b)
     some false = refl
 
 -- a handle that may be missing
-pub table_back : (p : ℕ) (t : TableOr) (w : List ℕ) → p + 1 < length w → Storable (table_in t) → table_or_at (put_table_or p t w) p ≡ t
+pub table_back : (p : ℕ) (t : Option TableRef) (w : List ℕ) → p + 1 < length w → Storable (table_in t) → table_or_at (put_table_or p t w) p ≡ t
 table_back p t w h s = rw (handle_back p (table_in t) w h s) (in_out t)
   where
-    in_out : (t : TableOr) → table_or (table_in t) ≡ t
-    in_out NoTable = refl
-    in_out (SomeTable r) = refl
+    in_out : (t : Option TableRef) → table_or (table_in t) ≡ t
+    in_out None = refl
+    in_out (Some r) = refl
 
-pub str_back : (p : ℕ) (s : StrOr) (w : List ℕ) → p + 1 < length w → Storable (str_in s) → str_or_at (put_str_or p s w) p ≡ s
+pub str_back : (p : ℕ) (s : Option StrRef) (w : List ℕ) → p + 1 < length w → Storable (str_in s) → str_or_at (put_str_or p s w) p ≡ s
 str_back p s w h k = rw (handle_back p (str_in s) w h k) (in_out s)
   where
-    in_out : (s : StrOr) → str_or (str_in s) ≡ s
-    in_out NoStr = refl
-    in_out (SomeStr r) = refl
+    in_out : (s : Option StrRef) → str_or (str_in s) ≡ s
+    in_out None = refl
+    in_out (Some r) = refl

@@ -3,13 +3,12 @@
 --     only_then, only_in                    one store after the other; a part of a wider part
 --     word_stays, count_stays, value_stays, table_stays, str_stays, upval_stays, long_stays     what is read apart from it
 --     below_stays, past_stays               the words below a boundary, and those past it
-use Rattle.std.specs.Prelude.{◌≡◌, Bool, List, ◌⊎◌, ℕ, ◌+◌, ◌-◌, ◌≤◌, ◌<◌, min, length, take, drop}
+use Rattle.std.specs.Prelude.{◌≡◌, Bool, List, ◌⊎◌, ℕ, ◌+◌, ◌-◌, ◌≤◌, ◌<◌, min, length, take, drop, Option}
 use Rattle.std.proofs.Common.{sym, ap, ◌∙◌, inl, inr, arith, length-set, length-take, length-drop, get_or-set_other, get_or-take, get_or-drop, ext_get_or}
 use Rattle.base.specs.Words.{at, put, bounded, get64, put64}
+use Rattle.value.specs.declared.StrRef.{StrRef}
+use Rattle.value.specs.declared.TableRef.{TableRef}
 use Rattle.value.specs.declared.Value.{Value}
-use Rattle.value.specs.declared.Handle.{Handle}
-use Rattle.value.specs.declared.TableOr.{TableOr}
-use Rattle.value.specs.declared.StrOr.{StrOr}
 use Rattle.value.specs.declared.UpvalRef.{UpvalRef}
 use Rattle.value.specs.Values.{value_at, put_value, word_of}
 use Rattle.value.specs.Handles.{first_of, second_of, handle_at, put_handle, table_in, table_or_at, put_table_or, str_in, str_or_at, put_str_or}
@@ -42,14 +41,14 @@ only_two p a b w =
 pub only_value : (p : ℕ) (v : Value) (w : List ℕ) → Only p 3 w (put_value p v w)
 only_value p v w = record { long = value_long p v w; kept = value_kept p v w }
 
-pub only_handle : (p : ℕ) (h : Handle) (w : List ℕ) → Only p 2 w (put_handle p h w)
+pub only_handle : (p : ℕ) (h : Option (ℕ × ℕ)) (w : List ℕ) → Only p 2 w (put_handle p h w)
 unfolding put_handle
 only_handle p h w = only_two p (first_of h) (second_of h) w
 
-pub only_table : (p : ℕ) (t : TableOr) (w : List ℕ) → Only p 2 w (put_table_or p t w)
+pub only_table : (p : ℕ) (t : Option TableRef) (w : List ℕ) → Only p 2 w (put_table_or p t w)
 only_table p t w = only_handle p (table_in t) w
 
-pub only_str : (p : ℕ) (s : StrOr) (w : List ℕ) → Only p 2 w (put_str_or p s w)
+pub only_str : (p : ℕ) (s : Option StrRef) (w : List ℕ) → Only p 2 w (put_str_or p s w)
 only_str p s w = only_handle p (str_in s) w
 
 pub only_upval : (p : ℕ) (u : UpvalRef) (w : List ℕ) → Only p 2 w (put_upval p u w)

@@ -1,12 +1,12 @@
 -- Each writer of a field stores within its own record: `Only p STRIDE`. With Stores and Bodies this gives that other records,
 -- and what lies below the boundary, stay. Assumes nothing.
-use Rattle.std.specs.Prelude.{refl, Bool, List, ℕ, ◌+◌, ◌*◌, ◌≤◌, ◌<◌}
+use Rattle.std.specs.Prelude.{refl, Bool, List, ℕ, ◌+◌, ◌*◌, ◌≤◌, ◌<◌, Option}
 use Rattle.std.proofs.Math.Decide.{dec_le}
 use Rattle.std.proofs.Common.{arith}
 use Rattle.base.specs.Ways.{le_yes, le_no}
 use Rattle.base.specs.Words.{at, put, bounded}
+use Rattle.value.specs.declared.TableRef.{TableRef}
 use Rattle.value.specs.declared.Value.{Value}
-use Rattle.value.specs.declared.TableOr.{TableOr}
 use Rattle.value.specs.declared.UpvalRef.{UpvalRef}
 use Rattle.value.specs.Values.{put_value}
 use Rattle.record.specs.Strings.{set_string_length}
@@ -31,7 +31,7 @@ module _ (p : ℕ) (w : List ℕ) where
   string_length_only n = only_put p n w
 
   -- table
-  pub table_meta_only : (t : TableOr) → Only p 580 w (set_table_meta p t w)
+  pub table_meta_only : (t : Option TableRef) → Only p 580 w (set_table_meta p t w)
   table_meta_only t = only_in p 580 (only_table p t w) (omega arith) (omega arith)
 
   pub table_sizes_only : (a n : ℕ) → Only p 580 w (set_table_sizes p a n w)
@@ -52,7 +52,7 @@ module _ (p : ℕ) (w : List ℕ) where
   pub rust_only : (b : Bool) → Only p 53 w (set_rust p b w)
   rust_only b = only_in p 53 (only_flag p b w) (omega arith) (omega arith)
 
-  pub closure_env_only : (t : TableOr) → Only p 53 w (set_closure_env p t w)
+  pub closure_env_only : (t : Option TableRef) → Only p 53 w (set_closure_env p t w)
   closure_env_only t = only_in p 53 (only_table (p + 1) t w) (omega arith) (omega arith)
 
   pub closure_proto_only : (n : ℕ) → Only p 53 w (set_closure_proto p n w)
@@ -75,10 +75,10 @@ module _ (p : ℕ) (w : List ℕ) where
   upvalue_value_only v = only_in p 4 (only_value (p + 1) v w) (omega arith) (omega arith)
 
   -- userdata
-  pub ud_meta_only : (t : TableOr) → Only p 7 w (set_ud_meta p t w)
+  pub ud_meta_only : (t : Option TableRef) → Only p 7 w (set_ud_meta p t w)
   ud_meta_only t = only_in p 7 (only_table p t w) (omega arith) (omega arith)
 
-  pub ud_env_only : (t : TableOr) → Only p 7 w (set_ud_env p t w)
+  pub ud_env_only : (t : Option TableRef) → Only p 7 w (set_ud_env p t w)
   ud_env_only t = only_in p 7 (only_table (p + 2) t w) (omega arith) (omega arith)
 
   pub ud_creation_only : (x : ℕ) → Only p 7 w (set_ud_creation p x w)
@@ -88,7 +88,7 @@ module _ (p : ℕ) (w : List ℕ) where
   ud_finalized_only b = only_in p 7 (only_flag (p + 6) b w) (omega arith) (omega arith)
 
   -- thread
-  pub thread_global_only : (t : TableOr) → Only p 268 w (set_thread_global p t w)
+  pub thread_global_only : (t : Option TableRef) → Only p 268 w (set_thread_global p t w)
   thread_global_only t = only_in p 268 (only_table p t w) (omega arith) (omega arith)
 
   pub thread_hook_only : (v : Value) → Only p 268 w (set_thread_hook p v w)

@@ -4,7 +4,7 @@
 --     table_whole, closure_whole, thread_whole      the traversals
 --     item_whole, one_whole     an item; one step: a main thread that was taken off gray waits for its traversal
 --     main_whole              the main thread's traversal
-use Rattle.std.specs.Prelude.{◌≡◌, refl, Bool, cond, ◌≢◌, eqb, length}
+use Rattle.std.specs.Prelude.{◌≡◌, refl, Bool, cond, ◌≢◌, eqb, length, Option}
 use Rattle.std.proofs.Common.{sym, ap, subst, ◌∙◌, inl, arith, eqb-true, eq-eqb}
 use Rattle.std.proofs.Math.Bool.{true, false}
 use mathlib.Core.List.{List}
@@ -17,7 +17,6 @@ use Rattle.value.specs.declared.ThreadRef.{ThreadRef}
 use Rattle.layout.specs.declared.Lay.{Lay}
 use Rattle.lists.specs.declared.Item.{Item}
 use Rattle.lists.specs.declared.Item.TheVariants.{Table, Function, Userdata, Thread, Main, Unknown}
-use Rattle.lists.specs.declared.Popped.{Popped}
 use Rattle.lists.specs.Lists.{damage, kind_of, item_in, length_of, place, item_at, push, pop, taken}
 use Rattle.lists.proofs.Laws.{item_found, pop_some, pop_length, pop_long, pop_kept}
 use Rattle.record.specs.Fields.{body_at}
@@ -84,7 +83,7 @@ module _ (l : Lay) (ok : Laid l) (a : Apart l) (am : Ample l) (w : List ℕ) (lo
     u_long = whole_long l ok a am w long h
 
     rest_is : (pop l.gray u).1 ≡ rest
-    rest_is = ap (λ (x : Popped × List ℕ). x.1) (pop_some l.gray u d)
+    rest_is = ap (λ (x : Option Item × List ℕ). x.1) (pop_some l.gray u d)
 
     rest_only : OnlyList l gray u rest
     rest_only = subst (λ x. OnlyList l gray u x) rest_is (pop_only l ok a gray u u_long)

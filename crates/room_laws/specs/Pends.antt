@@ -4,13 +4,12 @@
 --     Direct, item_for        the kinds that are followed at once; the item by which one of the others is listed
 --     marks_pends            the induction
 --     marks_keep             the same for what does not speak of links that are still to be marked
-use Rattle.std.specs.Prelude.{◌≡◌, Bool, cond, ℕ, zero, suc, ◌≤◌, length}
+use Rattle.std.specs.Prelude.{◌≡◌, Bool, cond, ℕ, zero, suc, ◌≤◌, length, Some, None, Option}
 use Rattle.std.proofs.Math.Path.{refl, subst}
 use Rattle.std.proofs.Common.{sym, arith}
 use Rattle.std.proofs.Math.Bool.{true, false}
 use mathlib.Core.List.{List, [], ◌∷◌, ◌++◌, append_assoc}
-use Rattle.value.specs.declared.TableOr.{TableOr}
-use Rattle.value.specs.declared.TableOr.TheVariants.{Absent, Present}
+use Rattle.value.specs.declared.TableRef.{TableRef}
 use Rattle.value.specs.declared.Value.{Value}
 use Rattle.value.specs.declared.Value.TheVariants.{Nil, Boolean, Light, Number, Str, Table, Function, Userdata, Thread}
 use Rattle.layout.specs.declared.Lay.{Lay}
@@ -89,10 +88,10 @@ module _ (l : Lay) (ok : Laid l) (a : Apart l) (w b : List ℕ) (long : l.words 
   thread_pends i g E m p = gray_pends (ref 5 i g) E m tt p
 
   -- a table that may be missing
-  table_or_pends : (t : TableOr) (E : List Ref) {u : List ℕ} → Marked l w u → P (table_link t ++ E) u → P E (marks l (table_link t) u)
+  table_or_pends : (t : Option TableRef) (E : List Ref) {u : List ℕ} → Marked l w u → P (table_link t ++ E) u → P E (marks l (table_link t) u)
   unfolding marks
-  table_or_pends (Present r) E m p = table_pends r.0 r.1 E m p
-  table_or_pends Absent E m p = p
+  table_or_pends (Some r) E m p = table_pends r.0 r.1 E m p
+  table_or_pends None E m p = p
 
   painted : (r : Ref) {u : List ℕ} → Marked l w u → is_white (colour_w l r u) ≡ true → Marked l w (paint_w l r 4 u)
   painted r {u} m e = marked_then m (moves_marked l ok a (paint_moves l r (white_true (colour_w l r u) e).0 (still refl)) (omega (arith, m.long)))

@@ -1,14 +1,16 @@
 -- Public reads of closures, upvalues and threads by handle: 1, 8, then 2 for a handle that names no occupied slot, then 4 for an
 -- index outside its range. They change nothing. Assumes nothing.
-use Rattle.std.specs.Prelude.{cond, List as Words, ℕ}
+use Rattle.std.specs.Prelude.{cond, List as Words, ℕ, Ok, Err, Result}
 use Rattle.base.specs.Ways.{if_le}
 use Rattle.base.specs.Heap.{Heap}
+use Rattle.base.specs.declared.Refusal.TheVariants.{OutOfRange}
+use Rattle.base.specs.declared.Refusal.{Refusal}
 use Rattle.value.specs.declared.FuncRef.{FuncRef}
 use Rattle.value.specs.declared.UpvalRef.{UpvalRef}
 use Rattle.value.specs.declared.ThreadRef.{ThreadRef}
 use Rattle.reads.specs.declared.Kind.TheVariants as kind
 use Rattle.reads.specs.declared.Read.{Read}
-use Rattle.reads.specs.declared.Read.TheVariants.{Number, Value, Table, Upvalue, Refused}
+use Rattle.reads.specs.declared.Read.TheVariants.{Number, Value, Table, Upvalue}
 use Rattle.reads.specs.Reads.{flag_read}
 use Rattle.reads.specs.Objects.{read_object}
 use Rattle.run_record.specs.Closures.{is_rust, closure_env, closure_proto, closure_count, closure_upvalue, closure_value}
@@ -22,43 +24,43 @@ use Rattle.run_reads.specs.declared.ThreadField.{ThreadField}
 use Rattle.run_reads.specs.declared.ThreadField.TheVariants as thread
 
 -- A closure: a Lua closure has upvalues, a Rust closure values.
-abbrev pub held_upvalue : ℕ → ℕ → Words ℕ → Read
-held_upvalue p i w = if_le (closure_count p w) i (Refused 4) (cond (is_rust p w) (Refused 4) (Upvalue (closure_upvalue p i w)))
+abbrev pub held_upvalue : ℕ → ℕ → Words ℕ → Result Read Refusal
+held_upvalue p i w = if_le (closure_count p w) i (Err OutOfRange) (cond (is_rust p w) (Err OutOfRange) (Ok (Upvalue (closure_upvalue p i w))))
 
-abbrev pub held_value : ℕ → ℕ → Words ℕ → Read
-held_value p i w = if_le (closure_count p w) i (Refused 4) (cond (is_rust p w) (Value (closure_value p i w)) (Refused 4))
+abbrev pub held_value : ℕ → ℕ → Words ℕ → Result Read Refusal
+held_value p i w = if_le (closure_count p w) i (Err OutOfRange) (cond (is_rust p w) (Ok (Value (closure_value p i w))) (Err OutOfRange))
 
-abbrev pub closure_in : ℕ → ClosureField → Words ℕ → Read
+abbrev pub closure_in : ℕ → ClosureField → Words ℕ → Result Read Refusal
 closure_in p closure.Rust w = flag_read (is_rust p w)
-closure_in p closure.Env w = Table (closure_env p w)
-closure_in p closure.Proto w = Number (closure_proto p w)
-closure_in p closure.Count w = Number (closure_count p w)
+closure_in p closure.Env w = Ok (Table (closure_env p w))
+closure_in p closure.Proto w = Ok (Number (closure_proto p w))
+closure_in p closure.Count w = Ok (Number (closure_count p w))
 closure_in p (closure.Upvalue i) w = held_upvalue p i w
 closure_in p (closure.Value i) w = held_value p i w
 
-abbrev pub read_closure : FuncRef → ClosureField → Heap → Read
+abbrev pub read_closure : FuncRef → ClosureField → Heap → Result Read Refusal
 read_closure f q = read_object kind.Functions (λ j p h. closure_in p q h.words) f.0 f.1
 
 -- An upvalue: whether it is closed, and its value.
-abbrev pub upvalue_in : ℕ → UpvalueField → Words ℕ → Read
+abbrev pub upvalue_in : ℕ → UpvalueField → Words ℕ → Result Read Refusal
 upvalue_in p upvalue.Closed w = flag_read (is_closed p w)
-upvalue_in p upvalue.Value w = Value (upvalue_value p w)
+upvalue_in p upvalue.Value w = Ok (Value (upvalue_value p w))
 
-abbrev pub read_upvalue : UpvalRef → UpvalueField → Heap → Read
+abbrev pub read_upvalue : UpvalRef → UpvalueField → Heap → Result Read Refusal
 read_upvalue u q = read_object kind.Upvalues (λ j p h. upvalue_in p q h.words) u.0 u.1
 
 -- A thread: the upvalues below their counts, the stack's values below its size.
-abbrev pub thread_in : ℕ → ThreadField → Words ℕ → Read
-thread_in p thread.Global w = Table (thread_global p w)
-thread_in p thread.Hook w = Value (thread_hook p w)
-thread_in p thread.Error w = Value (thread_error p w)
-thread_in p thread.Size w = Number (thread_size p w)
-thread_in p thread.Top w = Number (thread_top p w)
-thread_in p thread.Opens w = Number (thread_open_count p w)
-thread_in p thread.Suspendeds w = Number (thread_suspended_count p w)
-thread_in p (thread.Open i) w = if_le (thread_open_count p w) i (Refused 4) (Upvalue (thread_open p i w))
-thread_in p (thread.Suspended i) w = if_le (thread_suspended_count p w) i (Refused 4) (Upvalue (thread_suspended p i w))
-thread_in p (thread.Stack i) w = if_le (thread_size p w) i (Refused 4) (Value (thread_value p i w))
+abbrev pub thread_in : ℕ → ThreadField → Words ℕ → Result Read Refusal
+thread_in p thread.Global w = Ok (Table (thread_global p w))
+thread_in p thread.Hook w = Ok (Value (thread_hook p w))
+thread_in p thread.Error w = Ok (Value (thread_error p w))
+thread_in p thread.Size w = Ok (Number (thread_size p w))
+thread_in p thread.Top w = Ok (Number (thread_top p w))
+thread_in p thread.Opens w = Ok (Number (thread_open_count p w))
+thread_in p thread.Suspendeds w = Ok (Number (thread_suspended_count p w))
+thread_in p (thread.Open i) w = if_le (thread_open_count p w) i (Err OutOfRange) (Ok (Upvalue (thread_open p i w)))
+thread_in p (thread.Suspended i) w = if_le (thread_suspended_count p w) i (Err OutOfRange) (Ok (Upvalue (thread_suspended p i w)))
+thread_in p (thread.Stack i) w = if_le (thread_size p w) i (Err OutOfRange) (Ok (Value (thread_value p i w)))
 
-abbrev pub read_thread : ThreadRef → ThreadField → Heap → Read
+abbrev pub read_thread : ThreadRef → ThreadField → Heap → Result Read Refusal
 read_thread t q = read_object kind.Threads (λ j p h. thread_in p q h.words) t.0 t.1

@@ -5,10 +5,10 @@
 --     4         count of its upvalues, 0 to 16
 --     5 ..      of a Lua closure the handles of its upvalues, 2 words each; of a Rust closure its values, 3 words each
 -- Assumes nothing.
-use Rattle.std.specs.Prelude.{Bool, true, false, List, ℕ, ◌+◌, ◌*◌, eqb}
+use Rattle.std.specs.Prelude.{Bool, true, false, List, ℕ, ◌+◌, ◌*◌, eqb, Option}
 use Rattle.base.specs.Words.{at, put, bounded}
+use Rattle.value.specs.declared.TableRef.{TableRef}
 use Rattle.value.specs.declared.Value.{Value}
-use Rattle.value.specs.declared.TableOr.{TableOr}
 use Rattle.value.specs.declared.UpvalRef.{UpvalRef}
 use Rattle.value.specs.Values.{value_at, put_value}
 use Rattle.value.specs.Handles.{table_or_at, put_table_or}
@@ -20,10 +20,10 @@ is_rust p w = eqb (at w p) 1
 abbrev pub set_rust : ℕ → Bool → List ℕ → List ℕ
 set_rust p b w = put_flag p b w
 
-abbrev pub closure_env : ℕ → List ℕ → TableOr
+abbrev pub closure_env : ℕ → List ℕ → Option TableRef
 closure_env p w = table_or_at w (p + 1)
 
-abbrev pub set_closure_env : ℕ → TableOr → List ℕ → List ℕ
+abbrev pub set_closure_env : ℕ → Option TableRef → List ℕ → List ℕ
 set_closure_env p t w = put_table_or (p + 1) t w
 
 abbrev pub closure_proto : ℕ → List ℕ → ℕ

@@ -9,19 +9,19 @@
 --     44 ..     handles of the suspended upvalues, 2 words each, 16 places
 --     76 ..     the stack's values, 3 words each
 -- Assumes nothing.
-use Rattle.std.specs.Prelude.{List, ℕ, ◌+◌, ◌*◌, min}
+use Rattle.std.specs.Prelude.{List, ℕ, ◌+◌, ◌*◌, min, Option}
 use Rattle.base.specs.Words.{at, put, bounded}
+use Rattle.value.specs.declared.TableRef.{TableRef}
 use Rattle.value.specs.declared.Value.{Value}
-use Rattle.value.specs.declared.TableOr.{TableOr}
 use Rattle.value.specs.declared.UpvalRef.{UpvalRef}
 use Rattle.value.specs.Values.{value_at, put_value}
 use Rattle.value.specs.Handles.{table_or_at, put_table_or}
 use Rattle.record.specs.Fields.{upval_at, put_upval}
 
-abbrev pub thread_global : ℕ → List ℕ → TableOr
+abbrev pub thread_global : ℕ → List ℕ → Option TableRef
 thread_global p w = table_or_at w p
 
-abbrev pub set_thread_global : ℕ → TableOr → List ℕ → List ℕ
+abbrev pub set_thread_global : ℕ → Option TableRef → List ℕ → List ℕ
 set_thread_global p t w = put_table_or p t w
 
 abbrev pub thread_hook : ℕ → List ℕ → Value

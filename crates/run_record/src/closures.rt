@@ -2,7 +2,7 @@
 ghost use Rattle.std.specs.Prelude.{◌≡◌, ◌+◌, ◌^◌, ◌≤◌, ◌<◌, length};
 ghost use Rattle.run_record.specs.Closures.{is_rust, set_rust, closure_env, set_closure_env, closure_proto, set_closure_proto, closure_count, set_closure_count, closure_upvalue, set_closure_upvalue, closure_value, set_closure_value, closure_extent};
 
-use value::{TableOr, UpvalRef, Value};
+use value::{TableRef, UpvalRef, Value};
 
 // Whether it is a Rust closure; else a Lua closure.
 pub fn is_rust(w: &[u32], p: usize) -> bool
@@ -19,14 +19,14 @@ pub fn set_rust(w: &mut [u32], p: usize, b: bool)
     record::put_flag(w, p, b);
 }
 
-pub fn closure_env(w: &[u32], p: usize) -> TableOr
+pub fn closure_env(w: &[u32], p: usize) -> Option<TableRef>
     requires { p + 53 ≤ length w.now }
     ensures { result ≡ closure_env p w.now }
 {
     value::read_table_or(w, p + 1)
 }
 
-pub fn set_closure_env(w: &mut [u32], p: usize, t: TableOr)
+pub fn set_closure_env(w: &mut [u32], p: usize, t: Option<TableRef>)
     requires { p + 53 ≤ length w.old }
     ensures { w.new ≡ set_closure_env p t w.old }
 {
@@ -104,8 +104,5 @@ pub fn closure_extent(rust: bool, n: usize) -> usize
     requires { n ≤ 16 }
     ensures { (result ≡ closure_extent rust n) × (result ≤ 53) }
 {
-    if rust {
-        return 5 + 3 * n;
-    }
-    5 + 2 * n
+    if rust { 5 + 3 * n } else { 5 + 2 * n }
 }

@@ -2,16 +2,16 @@
 ghost use Rattle.std.specs.Prelude.{◌≡◌, ◌+◌, ◌≤◌, ◌<◌, length};
 ghost use Rattle.run_record.specs.Threads.{thread_global, set_thread_global, thread_hook, set_thread_hook, thread_error, set_thread_error, thread_size, set_thread_size, thread_top, set_thread_top, thread_open_count, set_thread_open_count, thread_suspended_count, set_thread_suspended_count, thread_open, set_thread_open, thread_suspended, set_thread_suspended, thread_value, set_thread_value, thread_extent};
 
-use value::{TableOr, UpvalRef, Value};
+use value::{TableRef, UpvalRef, Value};
 
-pub fn thread_global(w: &[u32], p: usize) -> TableOr
+pub fn thread_global(w: &[u32], p: usize) -> Option<TableRef>
     requires { p + 268 ≤ length w.now }
     ensures { result ≡ thread_global p w.now }
 {
     value::read_table_or(w, p)
 }
 
-pub fn set_thread_global(w: &mut [u32], p: usize, t: TableOr)
+pub fn set_thread_global(w: &mut [u32], p: usize, t: Option<TableRef>)
     requires { p + 268 ≤ length w.old }
     ensures { w.new ≡ set_thread_global p t w.old }
 {

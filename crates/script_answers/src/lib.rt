@@ -4,64 +4,39 @@
 ghost use Rattle.std.specs.Prelude.{◌≡◌};
 ghost use Rattle.script_answers.specs.Answers.{of_served, of_got, table_of, meta_of};
 
-use given::{Got, Served};
-use script_made::Object;
+use base::Refusal;
 use script_print::Outcome;
-use value::{TableOr, TableRef, Value};
+use value::{TableRef, Value};
 
-// A made table, or what is none.
-#[derive(Clone, Copy)]
-pub enum TableGiven {
-    Is(TableRef),
-    Not,
-}
-
-// A made table or 0, or what is neither.
-#[derive(Clone, Copy)]
-pub enum MetaGiven {
-    Is(TableOr),
-    Not,
-}
-
-pub fn of_served(a: Served) -> Outcome
+pub fn of_served(a: Result<(), Refusal>) -> Result<Outcome, Refusal>
     ensures { result ≡ of_served a }
 {
-    match a {
-        Served::Done => Outcome::Quiet,
-        Served::Refused(n) => Outcome::Refused(n),
-    }
+    a?;
+    Ok(Outcome::Quiet)
 }
 
-pub fn of_got(a: Got) -> Outcome
+pub fn of_got(a: Result<Value, Refusal>) -> Result<Outcome, Refusal>
     ensures { result ≡ of_got a }
 {
-    match a {
-        Got::Value(_) => Outcome::Quiet,
-        Got::Refused(n) => Outcome::Refused(n),
-    }
+    a?;
+    Ok(Outcome::Quiet)
 }
 
-pub fn table_of(o: Object) -> TableGiven
+pub fn table_of(o: Option<Value>) -> Option<TableRef>
     ensures { result ≡ table_of o }
 {
-    let Object::Known(v) = o else {
-        return TableGiven::Not;
-    };
-    match v {
-        Value::Table(r) => TableGiven::Is(r),
-        _ => TableGiven::Not,
+    match o? {
+        Value::Table(r) => Some(r),
+        _ => None,
     }
 }
 
-pub fn meta_of(o: Object) -> MetaGiven
+pub fn meta_of(o: Option<Value>) -> Option<Option<TableRef>>
     ensures { result ≡ meta_of o }
 {
-    let Object::Known(v) = o else {
-        return MetaGiven::Not;
-    };
-    match v {
-        Value::Nil => MetaGiven::Is(TableOr::Absent),
-        Value::Table(r) => MetaGiven::Is(TableOr::Present(r)),
-        _ => MetaGiven::Not,
+    match o? {
+        Value::Nil => Some(None),
+        Value::Table(r) => Some(Some(r)),
+        _ => None,
     }
 }

@@ -19,9 +19,10 @@ fn keep(out: &mut [u8], n: usize, c: u8) -> usize
 {
     if n < out.len() {
         out[n] = c;
-        return n + 1;
+        n + 1
+    } else {
+        n
     }
-    n
 }
 
 // A text from place n on. The place past it.
@@ -29,10 +30,8 @@ pub fn say(out: &mut [u8], n: usize, text: &[u8]) -> usize
     ensures { (result, out.new) ≡ said text.now (n, out.old) }
 {
     let mut p = n;
-    let mut i: usize = 0;
-    while i < text.len() {
+    for i in 0..text.len() {
         p = keep(out, p, text[i]);
-        i += 1;
     }
     p
 }
@@ -41,14 +40,12 @@ pub fn say(out: &mut [u8], n: usize, text: &[u8]) -> usize
 pub fn gather(part: &[u8], from: usize, line: &mut [u8], count: usize) -> Gathered
     ensures { (result, line.new) ≡ gather part.now from (count, line.old) }
 {
-    let mut i = from;
     let mut n = count;
-    while i < part.len() {
+    for i in from..part.len() {
         let c = part[i];
-        i += 1;
         if c == b'\n' {
             return Gathered {
-                next: i,
+                next: i + 1,
                 count: n,
                 whole: true,
             };
@@ -56,7 +53,7 @@ pub fn gather(part: &[u8], from: usize, line: &mut [u8], count: usize) -> Gather
         n = keep(line, n, c);
     }
     Gathered {
-        next: i,
+        next: from.max(part.len()),
         count: n,
         whole: false,
     }

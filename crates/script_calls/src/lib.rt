@@ -6,63 +6,84 @@ ghost use Rattle.base.specs.Heap.{heap};
 ghost use Rattle.script_answers.specs.Answers.{script};
 ghost use Rattle.script_calls.specs.Commands.{push_command, pop_command, set_item, seti_command, set_node, setn_command, set_meta, meta_command};
 
-use script_answers::{MetaGiven, TableGiven};
-use script_made::Object;
+use base::Refusal;
 use script_print::Outcome;
-use value::{TableOr, TableRef, Value};
+use value::{TableRef, Value};
 
 // `push K`.
-pub fn push_command(w: &mut [u32], b: &[u8], made: &[u32], k: u32) -> Outcome
+pub fn push_command(w: &mut [u32], b: &[u8], made: &[u32], k: u32) -> Result<Outcome, Refusal>
     ensures { (result, script (heap w.new b.now) made.now) ≡ push_command k (script (heap w.old b.now) made.now) }
 {
     match script_made::object_of(made, k) {
-        Object::Known(v) => {
+        Some(v) => {
             let a = stack_calls::push(w, b, v);
             script_answers::of_served(a)
         }
-        Object::Unmade => Outcome::Refused(4),
+        None => Err(Refusal::OutOfRange),
     }
 }
 
 // `pop`.
-pub fn pop_command(w: &mut [u32], b: &[u8], made: &[u32]) -> Outcome
+pub fn pop_command(w: &mut [u32], b: &[u8], made: &[u32]) -> Result<Outcome, Refusal>
     ensures { (result, script (heap w.new b.now) made.now) ≡ pop_command (script (heap w.old b.now) made.now) }
 {
     let a = stack_calls::pop(w, b);
     script_answers::of_got(a)
 }
 
-fn set_item(w: &mut [u32], b: &[u8], made: &[u32], t: TableRef, i: u32, k: u32) -> Outcome
+fn set_item(
+    w: &mut [u32],
+    b: &[u8],
+    made: &[u32],
+    t: TableRef,
+    i: u32,
+    k: u32,
+) -> Result<Outcome, Refusal>
     ensures { (result, script (heap w.new b.now) made.now) ≡ set_item t i k (script (heap w.old b.now) made.now) }
 {
     match script_made::object_of(made, k) {
-        Object::Known(v) => {
+        Some(v) => {
             let a = table_calls::table_set(w, b, t, i, v);
             script_answers::of_served(a)
         }
-        Object::Unmade => Outcome::Refused(4),
+        None => Err(Refusal::OutOfRange),
     }
 }
 
 // `seti T I K`.
-pub fn seti_command(w: &mut [u32], b: &[u8], made: &[u32], t: u32, i: u32, k: u32) -> Outcome
+pub fn seti_command(
+    w: &mut [u32],
+    b: &[u8],
+    made: &[u32],
+    t: u32,
+    i: u32,
+    k: u32,
+) -> Result<Outcome, Refusal>
     ensures { (result, script (heap w.new b.now) made.now) ≡ seti_command t i k (script (heap w.old b.now) made.now) }
 {
     let o = script_made::object_of(made, t);
     match script_answers::table_of(o) {
-        TableGiven::Is(x) => set_item(w, b, made, x, i, k),
-        TableGiven::Not => Outcome::Refused(4),
+        Some(x) => set_item(w, b, made, x, i, k),
+        None => Err(Refusal::OutOfRange),
     }
 }
 
-fn set_node(w: &mut [u32], b: &[u8], made: &[u32], t: TableRef, j: u32, k: u32, v: u32) -> Outcome
+fn set_node(
+    w: &mut [u32],
+    b: &[u8],
+    made: &[u32],
+    t: TableRef,
+    j: u32,
+    k: u32,
+    v: u32,
+) -> Result<Outcome, Refusal>
     ensures { (result, script (heap w.new b.now) made.now) ≡ set_node t j k v (script (heap w.old b.now) made.now) }
 {
-    let Object::Known(x) = script_made::object_of(made, k) else {
-        return Outcome::Refused(4);
+    let Some(x) = script_made::object_of(made, k) else {
+        return Err(Refusal::OutOfRange);
     };
-    let Object::Known(y) = script_made::object_of(made, v) else {
-        return Outcome::Refused(4);
+    let Some(y) = script_made::object_of(made, v) else {
+        return Err(Refusal::OutOfRange);
     };
     let a = node_calls::table_set_node(w, b, t, j, x, y);
     script_answers::of_served(a)
@@ -77,17 +98,23 @@ pub fn setn_command(
     j: u32,
     k: u32,
     v: u32,
-) -> Outcome
+) -> Result<Outcome, Refusal>
     ensures { (result, script (heap w.new b.now) made.now) ≡ setn_command t j k v (script (heap w.old b.now) made.now) }
 {
     let o = script_made::object_of(made, t);
     match script_answers::table_of(o) {
-        TableGiven::Is(x) => set_node(w, b, made, x, j, k, v),
-        TableGiven::Not => Outcome::Refused(4),
+        Some(x) => set_node(w, b, made, x, j, k, v),
+        None => Err(Refusal::OutOfRange),
     }
 }
 
-fn set_meta(w: &mut [u32], b: &[u8], made: &[u32], v: Value, t: TableOr) -> Outcome
+fn set_meta(
+    w: &mut [u32],
+    b: &[u8],
+    made: &[u32],
+    v: Value,
+    t: Option<TableRef>,
+) -> Result<Outcome, Refusal>
     ensures { (result, script (heap w.new b.now) made.now) ≡ set_meta v t (script (heap w.old b.now) made.now) }
 {
     match v {
@@ -99,20 +126,26 @@ fn set_meta(w: &mut [u32], b: &[u8], made: &[u32], v: Value, t: TableOr) -> Outc
             let a = object_calls::ud_set_meta(w, b, x, t);
             script_answers::of_served(a)
         }
-        _ => Outcome::Refused(4),
+        _ => Err(Refusal::OutOfRange),
     }
 }
 
 // `meta K T`.
-pub fn meta_command(w: &mut [u32], b: &[u8], made: &[u32], k: u32, t: u32) -> Outcome
+pub fn meta_command(
+    w: &mut [u32],
+    b: &[u8],
+    made: &[u32],
+    k: u32,
+    t: u32,
+) -> Result<Outcome, Refusal>
     ensures { (result, script (heap w.new b.now) made.now) ≡ meta_command k t (script (heap w.old b.now) made.now) }
 {
-    let Object::Known(v) = script_made::object_of(made, k) else {
-        return Outcome::Refused(4);
+    let Some(v) = script_made::object_of(made, k) else {
+        return Err(Refusal::OutOfRange);
     };
     let o = script_made::object_of(made, t);
     match script_answers::meta_of(o) {
-        MetaGiven::Is(m) => set_meta(w, b, made, v, m),
-        MetaGiven::Not => Outcome::Refused(4),
+        Some(m) => set_meta(w, b, made, v, m),
+        None => Err(Refusal::OutOfRange),
     }
 }

@@ -1,7 +1,8 @@
 -- A script's command `collect` (document 01, `heapscript`): the answer, the heap after it and the bytes that it prints. Assumes
 -- nothing.
-use Rattle.std.specs.Prelude.{true, List, [], ◌∷◌, ℕ, zero, suc, ◌-◌}
+use Rattle.std.specs.Prelude.{true, List, [], ◌∷◌, ℕ, zero, suc, ◌-◌, Ok, Err, Result}
 use Rattle.base.specs.Heap.{Heap}
+use Rattle.base.specs.declared.Refusal.{Refusal}
 use Rattle.value.specs.declared.UdRef.{UdRef}
 use Rattle.reads.specs.declared.Kind.{Kind}
 use Rattle.reads.specs.declared.Kind.TheVariants as kind
@@ -10,7 +11,7 @@ use Rattle.reads.specs.declared.Read.TheVariants as read
 use Rattle.part_reads.specs.declared.Slots.TheVariants.{Count}
 use Rattle.part_reads.specs.PartReads.{read_arena}
 use Rattle.accounts.specs.declared.Answer.{Answer}
-use Rattle.accounts.specs.declared.Answer.TheVariants.{Stepped, Unfinished, Ended, Passed, Handed, Busy, Failed, Refused}
+use Rattle.accounts.specs.declared.Answer.TheVariants.{Stepped, Unfinished, Ended, Passed, Handed, Busy, Failed}
 use Rattle.steps.specs.Steps.{full_gc, finish}
 use Rattle.script_bytes.specs.Bytes.{said}
 use Rattle.script_print.specs.declared.Counts.{Counts}
@@ -19,15 +20,15 @@ use Rattle.script_print.specs.declared.Outcome.TheVariants as outcome
 use Rattle.script_print.specs.Texts.{final_lines}
 
 -- The occupied slots of an arena, as the public read gives them; 0 if it is refused.
-unfoldable pub number_of : Read → ℕ
-number_of (read.Number n) = n
-number_of (read.Value v) = 0
-number_of (read.Table t) = 0
-number_of (read.Str t) = 0
-number_of (read.Upvalue r) = 0
-number_of (read.Item x) = 0
-number_of (read.Userdata t) = 0
-number_of (read.Refused n) = 0
+unfoldable pub number_of : Result Read Refusal → ℕ
+number_of (Ok (read.Number n)) = n
+number_of (Ok (read.Value v)) = 0
+number_of (Ok (read.Table t)) = 0
+number_of (Ok (read.Str t)) = 0
+number_of (Ok (read.Upvalue r)) = 0
+number_of (Ok (read.Item x)) = 0
+number_of (Ok (read.Userdata t)) = 0
+number_of (Err n) = 0
 
 unfoldable pub count_in : Kind → Heap → ℕ
 count_in k h = number_of (read_arena k Count h)
@@ -55,18 +56,18 @@ lost x y = record {
 }
 
 -- A finalizer handed out, or the end.
-abbrev pub on_handed : {A : Type 0} → (UdRef → A) → A → Answer → A
-on_handed f a (Handed r v) = f r
-on_handed f a (Stepped c) = a
-on_handed f a Unfinished = a
-on_handed f a Ended = a
-on_handed f a Passed = a
-on_handed f a Busy = a
-on_handed f a Failed = a
-on_handed f a (Refused n) = a
+abbrev pub on_handed : {A : Type 0} → (UdRef → A) → A → Result Answer Refusal → A
+on_handed f a (Ok (Handed r v)) = f r
+on_handed f a (Ok (Stepped c)) = a
+on_handed f a (Ok Unfinished) = a
+on_handed f a (Ok Ended) = a
+on_handed f a (Ok Passed) = a
+on_handed f a (Ok Busy) = a
+on_handed f a (Ok Failed) = a
+on_handed f a (Err n) = a
 
 -- Each finalizer that is handed out succeeds, until none is: at most n of them. What was handed out, the last answer, the heap.
-unfoldable pub finals : ℕ → Answer → Heap → List UdRef × (Answer × Heap)
+unfoldable pub finals : ℕ → Result Answer Refusal → Heap → List UdRef × (Result Answer Refusal × Heap)
 finals zero a h = ([], (a, h))
 finals (suc n) a h =
     on_handed
@@ -74,22 +75,22 @@ finals (suc n) a h =
     ([], (a, h)) a
 
 -- A collection that was not refused prints what it freed.
-unfoldable pub ended : Counts → Heap → Answer → Outcome
-ended before h (Refused n) = outcome.Refused n
-ended before h (Handed r v) = outcome.Freed (lost before (counts_in h))
-ended before h (Stepped c) = outcome.Freed (lost before (counts_in h))
-ended before h Unfinished = outcome.Freed (lost before (counts_in h))
-ended before h Ended = outcome.Freed (lost before (counts_in h))
-ended before h Passed = outcome.Freed (lost before (counts_in h))
-ended before h Busy = outcome.Freed (lost before (counts_in h))
-ended before h Failed = outcome.Freed (lost before (counts_in h))
+unfoldable pub ended : Counts → Heap → Result Answer Refusal → Result Outcome Refusal
+ended before h (Err n) = Err n
+ended before h (Ok (Handed r v)) = Ok (outcome.Freed (lost before (counts_in h)))
+ended before h (Ok (Stepped c)) = Ok (outcome.Freed (lost before (counts_in h)))
+ended before h (Ok Unfinished) = Ok (outcome.Freed (lost before (counts_in h)))
+ended before h (Ok Ended) = Ok (outcome.Freed (lost before (counts_in h)))
+ended before h (Ok Passed) = Ok (outcome.Freed (lost before (counts_in h)))
+ended before h (Ok Busy) = Ok (outcome.Freed (lost before (counts_in h)))
+ended before h (Ok Failed) = Ok (outcome.Freed (lost before (counts_in h)))
 
 -- The same with the finalizers handed out printed in lent bytes at p: the last answer, the heap, and the place past them.
-unfoldable pub handing : ℕ → Answer → Heap → ℕ × List ℕ → (Answer × Heap) × (ℕ × List ℕ)
+unfoldable pub handing : ℕ → Result Answer Refusal → Heap → ℕ × List ℕ → (Result Answer Refusal × Heap) × (ℕ × List ℕ)
 handing n a h p = ((finals n a h).1, said (final_lines (finals n a h).0) p)
 
 -- `collect`: a full collection, with as many finalizers at most as there are userdata; how it ended.
-unfoldable pub collecting : Heap → ℕ × List ℕ → (Outcome × Heap) × (ℕ × List ℕ)
+unfoldable pub collecting : Heap → ℕ × List ℕ → (Result Outcome Refusal × Heap) × (ℕ × List ℕ)
 collecting h p =
     let before = counts_in h in
     let x = handing before.userdata (full_gc h).0 (full_gc h).1 p in

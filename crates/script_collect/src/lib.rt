@@ -7,6 +7,7 @@ ghost use Rattle.base.specs.Heap.{heap};
 ghost use Rattle.script_collect.specs.Collects.{count_in, counts_in, lost, ended, handing, collecting};
 
 use accounts::Answer;
+use base::Refusal;
 use part_reads::Slots;
 use reads::{Kind, Read};
 use script_print::{Counts, Outcome};
@@ -14,14 +15,14 @@ use script_print::{Counts, Outcome};
 // The answer of a collection's last call, and the place past what is printed.
 #[derive(Clone, Copy)]
 pub struct Handing {
-    pub answer: Answer,
+    pub answer: Result<Answer, Refusal>,
     pub next: usize,
 }
 
 // How a command ended, and the place past what is printed.
 #[derive(Clone, Copy)]
 pub struct Told {
-    pub outcome: Outcome,
+    pub outcome: Result<Outcome, Refusal>,
     pub next: usize,
 }
 
@@ -30,7 +31,7 @@ fn count_in(w: &[u32], b: &[u8], k: Kind) -> u64
     ensures { result ≡ count_in k (heap w.now b.now) }
 {
     match part_reads::read_arena(w, b, k, Slots::Count) {
-        Read::Number(n) => n,
+        Ok(Read::Number(n)) => n,
         _ => 0,
     }
 }
@@ -53,41 +54,48 @@ fn lost(x: Counts, y: Counts) -> Counts
     ensures { result ≡ lost x y }
 {
     Counts {
-        strings: base::sub_sat(x.strings, y.strings),
-        tables: base::sub_sat(x.tables, y.tables),
-        functions: base::sub_sat(x.functions, y.functions),
-        upvalues: base::sub_sat(x.upvalues, y.upvalues),
-        userdata: base::sub_sat(x.userdata, y.userdata),
-        threads: base::sub_sat(x.threads, y.threads),
+        strings: x.strings.saturating_sub(y.strings),
+        tables: x.tables.saturating_sub(y.tables),
+        functions: x.functions.saturating_sub(y.functions),
+        upvalues: x.upvalues.saturating_sub(y.upvalues),
+        userdata: x.userdata.saturating_sub(y.userdata),
+        threads: x.threads.saturating_sub(y.threads),
     }
 }
 
 // Each finalizer that is handed out is printed and succeeds, until none is: at most `most` of them.
-fn finals(w: &mut [u32], b: &mut [u8], out: &mut [u8], first: Answer, most: u64) -> Handing
+fn finals(
+    w: &mut [u32],
+    b: &mut [u8],
+    out: &mut [u8],
+    first: Result<Answer, Refusal>,
+    most: u64,
+) -> Handing
     ensures { ((result.answer, heap w.new b.new), (result.next, out.new)) ≡ handing most first (heap w.old b.old) (0, out.old) }
 {
     let mut a = first;
     let mut next: usize = 0;
-    let mut left = most;
-    while 0 < left {
-        let Answer::Handed(r, _) = a else {
+    for _ in 0..most {
+        let Ok(Answer::Handed(r, _)) = a else {
             return Handing { answer: a, next };
         };
         next = script_print::final_line(out, next, r);
         a = steps::finish(w, b, true);
-        left -= 1;
     }
     Handing { answer: a, next }
 }
 
 // How a collection ended.
-fn ended(w: &[u32], b: &[u8], before: Counts, a: Answer) -> Outcome
+fn ended(
+    w: &[u32],
+    b: &[u8],
+    before: Counts,
+    a: Result<Answer, Refusal>,
+) -> Result<Outcome, Refusal>
     ensures { result ≡ ended before (heap w.now b.now) a }
 {
-    match a {
-        Answer::Refused(n) => Outcome::Refused(n),
-        _ => Outcome::Freed(lost(before, counts_in(w, b))),
-    }
+    a?;
+    Ok(Outcome::Freed(lost(before, counts_in(w, b))))
 }
 
 // `collect`.

@@ -31,35 +31,30 @@ pub enum Field {
 pub fn field_end(line: &[u8], at: usize) -> usize
     ensures { (result ≡ field_end line.now at) × Within at result (length line.now) }
 {
-    let mut i = at;
-    while i < line.len() {
+    for i in at..line.len() {
         if line[i] == b' ' {
             return i;
         }
-        i += 1;
     }
-    i
+    at.max(line.len())
 }
 
 fn other_word(s: &[u8]) -> Word
     ensures { result ≡ other_word s.now }
 {
     if record::strings::same_bytes(s, b"pop") {
-        return Word::Pop;
+        Word::Pop
+    } else if record::strings::same_bytes(s, b"seti") {
+        Word::Seti
+    } else if record::strings::same_bytes(s, b"setn") {
+        Word::Setn
+    } else if record::strings::same_bytes(s, b"meta") {
+        Word::Meta
+    } else if record::strings::same_bytes(s, b"collect") {
+        Word::Collect
+    } else {
+        Word::Unknown
     }
-    if record::strings::same_bytes(s, b"seti") {
-        return Word::Seti;
-    }
-    if record::strings::same_bytes(s, b"setn") {
-        return Word::Setn;
-    }
-    if record::strings::same_bytes(s, b"meta") {
-        return Word::Meta;
-    }
-    if record::strings::same_bytes(s, b"collect") {
-        return Word::Collect;
-    }
-    Word::Unknown
 }
 
 // The word that a field's bytes are.
@@ -67,18 +62,16 @@ fn word_of(s: &[u8]) -> Word
     ensures { result ≡ word_of s.now }
 {
     if record::strings::same_bytes(s, b"str") {
-        return Word::Str;
+        Word::Str
+    } else if record::strings::same_bytes(s, b"tab") {
+        Word::Tab
+    } else if record::strings::same_bytes(s, b"ud") {
+        Word::Ud
+    } else if record::strings::same_bytes(s, b"push") {
+        Word::Push
+    } else {
+        other_word(s)
     }
-    if record::strings::same_bytes(s, b"tab") {
-        return Word::Tab;
-    }
-    if record::strings::same_bytes(s, b"ud") {
-        return Word::Ud;
-    }
-    if record::strings::same_bytes(s, b"push") {
-        return Word::Push;
-    }
-    other_word(s)
 }
 
 // The word in the field that starts at `at`.
@@ -92,34 +85,23 @@ pub fn word_at(line: &[u8], at: usize) -> Word
     word_of(&line[at..end])
 }
 
-fn wide8(x: u8) -> u64
-    ensures { (result ≡ x) × (result < 256) }
-{
-    x as u64
-}
-
 // The number whose digits go on at `at`, up to a space or the end of the line.
 fn number_on(line: &[u8], at: usize) -> Field
     ensures { result ≡ number_on line.now 0 at }
 {
-    let mut i = at;
     let mut v: u64 = 0;
-    while i < line.len() {
-        let c = wide8(line[i]);
+    for i in at..line.len() {
+        let c = u64::from(line[i]);
         if c == 32 {
             return Field::Part(v as u32, i + 1);
         }
-        if c < 48 {
-            return Field::Bad;
-        }
-        if 57 < c {
+        if c < 48 || 57 < c {
             return Field::Bad;
         }
         v = v * 10 + (c - 48);
         if 4294967295 < v {
             return Field::Bad;
         }
-        i += 1;
     }
     Field::Last(v as u32)
 }
@@ -128,10 +110,7 @@ fn number_on(line: &[u8], at: usize) -> Field
 pub fn number_at(line: &[u8], at: usize) -> Field
     ensures { result ≡ number_at line.now at }
 {
-    if line.len() <= at {
-        return Field::Bad;
-    }
-    if line[at] == b' ' {
+    if line.len() <= at || line[at] == b' ' {
         return Field::Bad;
     }
     number_on(line, at)

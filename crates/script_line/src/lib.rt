@@ -47,8 +47,7 @@ fn fourth(line: &[u8], at: usize, a: u32, b: u32, c: u32) -> Numbers
 {
     match script_reader::number_from(line, at) {
         Field::Last(d) => counted(4, a, b, c, d),
-        Field::Part(_, _) => counted(5, 0, 0, 0, 0),
-        Field::Bad => counted(5, 0, 0, 0, 0),
+        _ => counted(5, 0, 0, 0, 0),
     }
 }
 

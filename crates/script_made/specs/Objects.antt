@@ -1,14 +1,12 @@
 -- The table of made objects, in words: word 0 is how many there are, then three words for each. Numbers of made objects count
 -- from 1; 0 is nil. Assumes nothing.
-use Rattle.std.specs.Prelude.{◌≡◌, Bool, false, List, ℕ, ◌+◌, ◌-◌, ◌*◌, ◌/◌, ◌<◌, min, leb, length}
+use Rattle.std.specs.Prelude.{◌≡◌, Bool, false, List, ℕ, ◌+◌, ◌-◌, ◌*◌, ◌/◌, ◌<◌, min, leb, length, Some, None, Option}
 use Rattle.std.proofs.Common.{leb-false}
 use Rattle.base.specs.Ways.{if_lt, if_eq}
 use Rattle.base.specs.Words.{at, put}
 use Rattle.value.specs.declared.Value.{Value}
 use Rattle.value.specs.declared.Value.TheVariants as value
 use Rattle.value.specs.Values.{value_at, put_value}
-use Rattle.script_made.specs.declared.Object.{Object}
-use Rattle.script_made.specs.declared.Object.TheVariants.{Known, Unmade}
 
 -- Room for 4,096 objects, or for as many as the words hold.
 abbrev pub room_of : List ℕ → ℕ
@@ -19,8 +17,8 @@ abbrev pub count_of : List ℕ → ℕ
 count_of made = min (at made 0) (room_of made)
 
 -- What a number names.
-unfoldable pub object_of : List ℕ → ℕ → Object
-object_of made k = if_eq k 0 (Known value.Nil) (if_lt (count_of made) k Unmade (Known (value_at made (3 * k - 2))))
+unfoldable pub object_of : List ℕ → ℕ → Option Value
+object_of made k = if_eq k 0 (Some value.Nil) (if_lt (count_of made) k None (Some (value_at made (3 * k - 2))))
 
 unfoldable pub is_full : List ℕ → Bool
 is_full made = leb (room_of made) (count_of made)

@@ -7,13 +7,6 @@ ghost use Rattle.script_made.specs.Objects.{room_of, count_of, object_of, is_ful
 
 use value::Value;
 
-// What a number names: nil for 0, or the made object of that number. Or no made object.
-#[derive(Clone, Copy)]
-pub enum Object {
-    Known(Value),
-    Unmade,
-}
-
 // The most made objects.
 pub const MOST: usize = 4096;
 
@@ -21,11 +14,7 @@ pub const MOST: usize = 4096;
 fn room_of(made: &[u32]) -> usize
     ensures { result ≡ room_of made.now }
 {
-    if made.len() == 0 {
-        return 0;
-    }
-    let n = (made.len() - 1) / 3;
-    if n < MOST { n } else { MOST }
+    (made.len().saturating_sub(1) / 3).min(MOST)
 }
 
 // How many objects were made. A count past the room reads as the room.
@@ -34,24 +23,24 @@ fn count_of(made: &[u32]) -> usize
 {
     let room = room_of(made);
     if room == 0 {
-        return 0;
+        0
+    } else {
+        base::wide(made[0]).min(room)
     }
-    let n = base::wide(made[0]);
-    if n < room { n } else { room }
 }
 
 // What a number names.
-pub fn object_of(made: &[u32], k: u32) -> Object
+pub fn object_of(made: &[u32], k: u32) -> Option<Value>
     ensures { result ≡ object_of made.now k }
 {
-    if k == 0 {
-        return Object::Known(Value::Nil);
-    }
     let n = base::wide(k);
-    if count_of(made) < n {
-        return Object::Unmade;
+    if n == 0 {
+        Some(Value::Nil)
+    } else if count_of(made) < n {
+        None
+    } else {
+        Some(value::read_value(made, 3 * n - 2))
     }
-    Object::Known(value::read_value(made, 3 * n - 2))
 }
 
 // Whether there is no room for one more object.

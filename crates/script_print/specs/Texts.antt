@@ -1,10 +1,12 @@
 -- What a script prints (document 01, `heapscript`), as bytes. Assumes nothing.
-use Rattle.std.specs.Prelude.{List, [], ◌∷◌, ◌++◌, ℕ, zero, suc, ◌+◌, ◌/◌, ◌%◌}
+use Rattle.std.specs.Prelude.{List, [], ◌∷◌, ◌++◌, ℕ, zero, suc, ◌+◌, ◌/◌, ◌%◌, Ok, Err, Result}
 use Rattle.base.specs.Ways.{if_lt}
+use Rattle.base.specs.declared.Refusal.{Refusal}
+use Rattle.base.specs.Refusals.{number}
 use Rattle.value.specs.declared.UdRef.{UdRef}
 use Rattle.script_print.specs.declared.Counts.{Counts}
 use Rattle.script_print.specs.declared.Outcome.{Outcome}
-use Rattle.script_print.specs.declared.Outcome.TheVariants.{Quiet, Str, Table, Userdata, Freed, Refused}
+use Rattle.script_print.specs.declared.Outcome.TheVariants.{Quiet, Str, Table, Userdata, Freed}
 
 -- A number in decimal digits, put in front of `after`; at most k digits.
 unfoldable pub digits_on : ℕ → ℕ → List ℕ → List ℕ
@@ -61,13 +63,13 @@ refused_line line n =
     ++ (field line ++ ((32 ∷ 114 ∷ 101 ∷ 102 ∷ 117 ∷ 115 ∷ 101 ∷ 100 ∷ []) ++ (field n ++ end)))
 
 -- What the outcome of line number `line` prints.
-unfoldable pub outcome_text : ℕ → Outcome → List ℕ
-outcome_text line Quiet = []
-outcome_text line (Str k r) = object_line k STR r.0 r.1
-outcome_text line (Table k r) = object_line k TAB r.0 r.1
-outcome_text line (Userdata k r) = object_line k UD r.0 r.1
-outcome_text line (Freed c) = freed_line c
-outcome_text line (Refused n) = refused_line line n
+unfoldable pub outcome_text : ℕ → Result Outcome Refusal → List ℕ
+outcome_text line (Ok Quiet) = []
+outcome_text line (Ok (Str k r)) = object_line k STR r.0 r.1
+outcome_text line (Ok (Table k r)) = object_line k TAB r.0 r.1
+outcome_text line (Ok (Userdata k r)) = object_line k UD r.0 r.1
+outcome_text line (Ok (Freed c)) = freed_line c
+outcome_text line (Err n) = refused_line line (number n)
 
 -- Finalizers handed out, in order.
 unfoldable pub final_lines : List UdRef → List ℕ

@@ -6,6 +6,7 @@ ghost use Rattle.std.specs.Prelude.{◌≡◌, ◌++◌, ◌+◌, ◌-◌, ◌%�
 ghost use Rattle.script_bytes.specs.Bytes.{said};
 ghost use Rattle.script_print.specs.Texts.{decimal, field, handle_text, final_line, object_line, three_fields, freed_line, refused_line, outcome_text};
 
+use base::Refusal;
 use script_bytes::say;
 use value::{StrRef, TableRef, UdRef};
 
@@ -28,7 +29,6 @@ pub enum Outcome {
     Table(u32, TableRef),
     Userdata(u32, UdRef),
     Freed(Counts),
-    Refused(u32),
 }
 
 fn last_digit(n: u64) -> u8
@@ -42,17 +42,15 @@ fn spell(digits: &mut [u8], n: u64) -> usize
     requires { length digits.old ≡ 20 }
     ensures { (take (20 - result) (drop result digits.new) ≡ decimal n) × (result ≤ 20) }
 {
-    let mut i: usize = 20;
     let mut rest = n;
-    while 0 < i {
-        i -= 1;
+    for i in (0..20).rev() {
         digits[i] = last_digit(rest);
         if rest < 10 {
             return i;
         }
-        rest = rest / 10;
+        rest /= 10;
     }
-    i
+    0
 }
 
 // A number in decimal digits.
@@ -135,15 +133,15 @@ fn refused_line(out: &mut [u8], at: usize, line: u64, n: u32) -> usize
 }
 
 // How line number `line` ended.
-pub fn outcome_line(out: &mut [u8], at: usize, line: u64, o: Outcome) -> usize
+pub fn outcome_line(out: &mut [u8], at: usize, line: u64, o: Result<Outcome, Refusal>) -> usize
     ensures { (result, out.new) ≡ said (outcome_text line o) (at, out.old) }
 {
     match o {
-        Outcome::Quiet => at,
-        Outcome::Str(k, r) => object_line(out, at, k, b" str", r.0, r.1),
-        Outcome::Table(k, r) => object_line(out, at, k, b" tab", r.0, r.1),
-        Outcome::Userdata(k, r) => object_line(out, at, k, b" ud", r.0, r.1),
-        Outcome::Freed(c) => freed_line(out, at, c),
-        Outcome::Refused(n) => refused_line(out, at, line, n),
+        Ok(Outcome::Quiet) => at,
+        Ok(Outcome::Str(k, r)) => object_line(out, at, k, b" str", r.0, r.1),
+        Ok(Outcome::Table(k, r)) => object_line(out, at, k, b" tab", r.0, r.1),
+        Ok(Outcome::Userdata(k, r)) => object_line(out, at, k, b" ud", r.0, r.1),
+        Ok(Outcome::Freed(c)) => freed_line(out, at, c),
+        Err(n) => refused_line(out, at, line, n.number()),
     }
 }

@@ -1,7 +1,8 @@
 -- A line of a script (document 01, `heapscript`): what it does to the heap and the table of made objects, and the bytes that
 -- it prints. Assumes nothing.
-use Rattle.std.specs.Prelude.{List, [], ◌++◌, ℕ, drop}
+use Rattle.std.specs.Prelude.{List, [], ◌++◌, ℕ, drop, Result}
 use Rattle.base.specs.Heap.{Heap}
+use Rattle.base.specs.declared.Refusal.{Refusal}
 use Rattle.value.specs.declared.UdRef.{UdRef}
 use Rattle.accounts.specs.declared.Answer.{Answer}
 use Rattle.steps.specs.Steps.{full_gc}
@@ -20,11 +21,11 @@ use Rattle.script_collect.specs.Collects.{counts_in, finals, ended}
 -- What a command gives: the finalizers handed out, how it ended, and the script after.
 pub record Obeyed : Type 0 where
   pub finals : List UdRef
-  pub outcome : Outcome
+  pub outcome : Result Outcome Refusal
   pub script : Script
 
 -- `collect`: a full collection, with as many finalizers at most as there are userdata.
-abbrev pub collected_to : Counts → List ℕ → List UdRef × (Answer × Heap) → Obeyed
+abbrev pub collected_to : Counts → List ℕ → List UdRef × (Result Answer Refusal × Heap) → Obeyed
 collected_to before m x = record {
   finals = x.0;
   outcome = ended before x.1.1 x.1.0;
@@ -37,7 +38,7 @@ collect_command s =
     collected_to before s.made (finals before.userdata (full_gc s.heap).0 (full_gc s.heap).1)
 
 -- No other command hands a finalizer out.
-abbrev pub plain : Outcome × Script → Obeyed
+abbrev pub plain : Result Outcome Refusal × Script → Obeyed
 plain x = record { finals = []; outcome = x.0; script = x.1 }
 
 -- A bad command is 4. The text of `str` is the line from its place on.
@@ -64,7 +65,7 @@ abbrev pub printed : List ℕ → List ℕ × Script → (ℕ × List ℕ) × Sc
 printed out x = (said x.0 (0, out), x.1)
 
 -- The same of a command, with the finalizers handed out printed at p.
-unfoldable pub obeying : List ℕ → Command → Script → ℕ × List ℕ → (Outcome × Script) × (ℕ × List ℕ)
+unfoldable pub obeying : List ℕ → Command → Script → ℕ × List ℕ → (Result Outcome Refusal × Script) × (ℕ × List ℕ)
 obeying line c s p =
     let o = obey line c s in
     ((o.outcome, o.script), said (final_lines o.finals) p)

@@ -7,11 +7,12 @@ ghost use Rattle.script_line.specs.Lines.{TextWithin};
 ghost use Rattle.script_answers.specs.Answers.{script};
 ghost use Rattle.script_run.specs.Runs.{run_line, printed, obeying};
 
+use base::Refusal;
 use script_collect::Told;
 use script_line::Command;
 use script_print::Outcome;
 
-fn plain(outcome: Outcome) -> Told
+fn plain(outcome: Result<Outcome, Refusal>) -> Told
     ensures { (result.outcome ≡ outcome) × (result.next ≡ 0) }
 {
     Told { outcome, next: 0 }
@@ -39,7 +40,7 @@ fn obey(
         Command::Setn(t, j, k, v) => plain(script_calls::setn_command(w, b, made, t, j, k, v)),
         Command::Meta(k, t) => plain(script_calls::meta_command(w, b, made, k, t)),
         Command::Collect => script_collect::collect_command(w, b, out),
-        Command::Bad => plain(Outcome::Refused(4)),
+        Command::Bad => plain(Err(Refusal::OutOfRange)),
     }
 }
 

@@ -6,58 +6,41 @@ ghost use Rattle.std.specs.Prelude.{◌≡◌};
 ghost use Rattle.base.specs.Heap.{heap};
 ghost use Rattle.stack_calls.specs.StackCalls.{push, pop, stack_set, set_top};
 
-use given::{Got, Served};
-use layout::Opened;
+use base::Refusal;
 use value::Value;
 
 // A value on top of the main stack: 4 for a full one, 2 for a value that names nothing.
-pub fn push(w: &mut [u32], b: &[u8], v: Value) -> Served
+pub fn push(w: &mut [u32], b: &[u8], v: Value) -> Result<(), Refusal>
     ensures { (result, heap w.new b.now) ≡ push v (heap w.old b.now) }
 {
-    match test1::enter(w, b) {
-        Opened::Fits(l) => {
-            let s = owners::main_stack(w, l);
-            stacks::push_value(w, l, s, v)
-        }
-        Opened::Refused(n) => Served::Refused(n),
-    }
+    let l = test1::enter(w, b)?;
+    let s = owners::main_stack(w, l);
+    stacks::push_value(w, l, s, v)
 }
 
 // The value on top, which stays where it is; 5 for an empty stack.
-pub fn pop(w: &mut [u32], b: &[u8]) -> Got
+pub fn pop(w: &mut [u32], b: &[u8]) -> Result<Value, Refusal>
     ensures { (result, heap w.new b.now) ≡ pop (heap w.old b.now) }
 {
-    match test1::enter(w, b) {
-        Opened::Fits(l) => {
-            let s = owners::main_stack(w, l);
-            stacks::pop_value(w, s)
-        }
-        Opened::Refused(n) => Got::Refused(n),
-    }
+    let l = test1::enter(w, b)?;
+    let s = owners::main_stack(w, l);
+    stacks::pop_value(w, s)
 }
 
 // A value in place i, also at or above the top: 4 past the stack's size, 2 for a value that names nothing.
-pub fn stack_set(w: &mut [u32], b: &[u8], i: u32, v: Value) -> Served
+pub fn stack_set(w: &mut [u32], b: &[u8], i: u32, v: Value) -> Result<(), Refusal>
     ensures { (result, heap w.new b.now) ≡ stack_set i v (heap w.old b.now) }
 {
-    match test1::enter(w, b) {
-        Opened::Fits(l) => {
-            let s = owners::main_stack(w, l);
-            stacks::set_value(w, l, s, i, v)
-        }
-        Opened::Refused(n) => Served::Refused(n),
-    }
+    let l = test1::enter(w, b)?;
+    let s = owners::main_stack(w, l);
+    stacks::set_value(w, l, s, i, v)
 }
 
 // The top is n, and places newly below it are nil; 4 past the stack's size.
-pub fn set_top(w: &mut [u32], b: &[u8], n: u32) -> Served
+pub fn set_top(w: &mut [u32], b: &[u8], n: u32) -> Result<(), Refusal>
     ensures { (result, heap w.new b.now) ≡ set_top n (heap w.old b.now) }
 {
-    match test1::enter(w, b) {
-        Opened::Fits(l) => {
-            let s = owners::main_stack(w, l);
-            stacks::set_height(w, s, n)
-        }
-        Opened::Refused(k) => Served::Refused(k),
-    }
+    let l = test1::enter(w, b)?;
+    let s = owners::main_stack(w, l);
+    stacks::set_height(w, s, n)
 }

@@ -4,12 +4,11 @@
 
 ghost use Rattle.std.specs.Prelude.{◌≡◌, ◌+◌, ◌≤◌, ◌<◌, length};
 ghost use Rattle.layout.specs.Layout.{lay_of};
-ghost use Rattle.laid.specs.Laid.{Laid};
 ghost use Rattle.stacks.specs.Places.{Holds, store_value};
 ghost use Rattle.stacks.specs.Values.{push_value, pop_value, set_value, raised, set_height};
 
-use given::{Got, Served};
-use layout::Sizes;
+use base::Refusal;
+use layout::Plan;
 use value::Value;
 
 // A counted part of the words: the place of its count, its first place, how many places it has, its count as it is read.
@@ -22,60 +21,57 @@ pub struct Counted {
 }
 
 // A value stands in the three words from p on; 2 for one that names nothing.
-pub fn store_value(w: &mut [u32], l: Sizes, p: usize, v: Value) -> Served
-    requires laid { Laid (lay_of l) }
-    requires l_in_bounds { (lay_of l).words ≤ length w.old }
+pub fn store_value(w: &mut [u32], l: Plan, p: usize, v: Value) -> Result<(), Refusal>
+    requires l_in_bounds { (lay_of l.sizes).words ≤ length w.old }
     requires p_in_bounds { p + 2 < length w.old }
-    ensures { (result, w.new) ≡ store_value (lay_of l) p v w.old }
+    ensures { (result, w.new) ≡ store_value (lay_of l.sizes) p v w.old }
 {
     if !given::is_sound(w, l, v) {
-        return Served::Refused(2);
+        return Err(Refusal::Stale);
     }
     value::write_value(w, p, v);
-    Served::Done
+    Ok(())
 }
 
 // A value on top of a stack.
-pub fn push_value(w: &mut [u32], l: Sizes, s: Counted, v: Value) -> Served
-    requires laid { Laid (lay_of l) }
-    requires l_in_bounds { (lay_of l).words ≤ length w.old }
+pub fn push_value(w: &mut [u32], l: Plan, s: Counted, v: Value) -> Result<(), Refusal>
+    requires l_in_bounds { (lay_of l.sizes).words ≤ length w.old }
     requires holds { Holds s 3 (length w.old) }
-    ensures { (result, w.new) ≡ push_value (lay_of l) s v w.old }
+    ensures { (result, w.new) ≡ push_value (lay_of l.sizes) s v w.old }
 {
     if s.room <= s.count {
-        return Served::Refused(4);
+        return Err(Refusal::OutOfRange);
     }
     if !given::is_sound(w, l, v) {
-        return Served::Refused(2);
+        return Err(Refusal::Stale);
     }
     value::write_value(w, s.base + 3 * s.count, v);
     record::put_number(w, s.word, s.count + 1);
-    Served::Done
+    Ok(())
 }
 
 // The top is one less; the value there is answered and stays.
-pub fn pop_value(w: &mut [u32], s: Counted) -> Got
+pub fn pop_value(w: &mut [u32], s: Counted) -> Result<Value, Refusal>
     requires { Holds s 3 (length w.old) }
     ensures { (result, w.new) ≡ pop_value s w.old }
 {
     if s.count == 0 {
-        return Got::Refused(5);
+        return Err(Refusal::WrongState);
     }
     let v = value::read_value(w, s.base + 3 * (s.count - 1));
     record::put_number(w, s.word, s.count - 1);
-    Got::Value(v)
+    Ok(v)
 }
 
 // Any place of a stack, also at or above the top.
-pub fn set_value(w: &mut [u32], l: Sizes, s: Counted, i: u32, v: Value) -> Served
-    requires laid { Laid (lay_of l) }
-    requires l_in_bounds { (lay_of l).words ≤ length w.old }
+pub fn set_value(w: &mut [u32], l: Plan, s: Counted, i: u32, v: Value) -> Result<(), Refusal>
+    requires l_in_bounds { (lay_of l.sizes).words ≤ length w.old }
     requires holds { Holds s 3 (length w.old) }
-    ensures { (result, w.new) ≡ set_value (lay_of l) s i v w.old }
+    ensures { (result, w.new) ≡ set_value (lay_of l.sizes) s i v w.old }
 {
     let k = base::wide(i);
     if s.room <= k {
-        return Served::Refused(4);
+        return Err(Refusal::OutOfRange);
     }
     store_value(w, l, s.base + 3 * k, v)
 }
@@ -86,23 +82,21 @@ fn raise(w: &mut [u32], s: Counted, n: usize)
     requires n_le_room { n ≤ s.room }
     ensures { w.new ≡ raised s n w.old }
 {
-    let mut i = s.count;
-    while i < n {
+    for i in s.count..n {
         value::write_value(w, s.base + 3 * i, Value::Nil);
-        i += 1;
     }
 }
 
 // The top of a stack is n.
-pub fn set_height(w: &mut [u32], s: Counted, n: u32) -> Served
+pub fn set_height(w: &mut [u32], s: Counted, n: u32) -> Result<(), Refusal>
     requires { Holds s 3 (length w.old) }
     ensures { (result, w.new) ≡ set_height s n w.old }
 {
     let top = base::wide(n);
     if s.room < top {
-        return Served::Refused(4);
+        return Err(Refusal::OutOfRange);
     }
     raise(w, s, top);
     record::put_number(w, s.word, top);
-    Served::Done
+    Ok(())
 }

@@ -5,12 +5,11 @@
 use Rattle.std.proofs.Common.{sym, arith}
 use Rattle.std.proofs.Math.Path.{subst}
 use mathlib.Core.List.{List}
-use Rattle.std.specs.Prelude.{ℕ, ◌+◌, ◌-◌, ◌*◌, ◌≤◌, ◌<◌}
+use Rattle.std.specs.Prelude.{ℕ, ◌+◌, ◌-◌, ◌*◌, ◌≤◌, ◌<◌, Some, None, Option, Result}
 use Rattle.std.proofs.Math.Decide.{dec_lt}
 use Rattle.base.specs.Loop.{run_keeps, run_over}
 use Rattle.base.specs.Words.{put}
-use Rattle.arena.specs.declared.Named.{Named}
-use Rattle.arena.specs.declared.Named.TheVariants.{At, Stale}
+use Rattle.base.specs.declared.Refusal.{Refusal}
 use Rattle.arena.specs.Slots.{named}
 use Rattle.value.specs.declared.UpvalRef.{UpvalRef}
 use Rattle.value.specs.declared.ThreadRef.{ThreadRef}
@@ -19,8 +18,6 @@ use Rattle.value.specs.declared.Value.TheVariants.{Nil}
 use Rattle.layout.specs.declared.Lay.{Lay}
 use Rattle.laid.specs.Laid.{Laid}
 use Rattle.record.specs.Fields.{body_at}
-use Rattle.given.specs.declared.Served.{Served}
-use Rattle.given.specs.declared.Got.{Got}
 use Rattle.given.specs.Answers.{at_named, on_named}
 use Rattle.given.specs.Given.{is_upvalue, is_sound}
 use Rattle.stacks.specs.declared.Counted.{Counted}
@@ -37,12 +34,12 @@ module _ (l : Lay) (ok : Laid l) (a : Apart l) where
   -- A value stored at a place.
   pub store_plain : (p : ℕ) (v : Value) (w : List ℕ) → Plain l p → Plain l (p + 1) → Plain l (p + 2) → Plainly l w (store_value l p v w).1
   unfolding store_value
-  store_plain p v w f g h = cond_both (λ (x : Served × List ℕ). Plainly l w x.1) (is_sound l v w) _ _ (λ e. plainly_value l ok a p v f g h plainly_none) (λ e. plainly_none)
+  store_plain p v w f g h = cond_both (λ (x : Result Unit Refusal × List ℕ). Plainly l w x.1) (is_sound l v w) _ _ (λ e. plainly_value l ok a p v f g h plainly_none) (λ e. plainly_none)
 
   -- A stack whose values stand past the prototypes. `plain` says what plain changes keep, `store` what a new count keeps.
   module _ (s : Counted) (g : l.stack.base ≤ s.base) (w : List ℕ) (Q : List ℕ → Type 0) (plain : (u : List ℕ) → Plainly l w u → Q u)
       (store : (n : ℕ) (u : List ℕ) → (s.count ≤ s.room → n ≤ s.room) → Plainly l w u → Q (put s.word n u)) where
-    abbrev T : Served × List ℕ → Type 0
+    abbrev T : Result Unit Refusal × List ℕ → Type 0
     T x = Q x.1
 
     none : Q w
@@ -56,7 +53,7 @@ module _ (l : Lay) (ok : Laid l) (a : Apart l) where
 
     pub pop_both : Q (pop_value s w).1
     unfolding pop_value
-    pop_both = eq_both (λ (x : Got × List ℕ). Q x.1) _ _ _ _ (λ e. none) (λ e. store (s.count - 1) w (λ h. omega (arith, h)) plainly_none)
+    pop_both = eq_both (λ (x : Result Value Refusal × List ℕ). Q x.1) _ _ _ _ (λ e. none) (λ e. store (s.count - 1) w (λ h. omega (arith, h)) plainly_none)
 
     pub set_both : (i : ℕ) (v : Value) → Q (set_value l s i v w).1
     unfolding set_value store_value
@@ -98,20 +95,20 @@ module _ (l : Lay) (ok : Laid l) (a : Apart l) where
         more x y z f = omega (arith, f)
 
     -- Work on the record of what a handle names: a thread's,
-    pub thread_both : {A : Type 0} (Q : List ℕ → Type 0) (refuse : ℕ → A) (f : ℕ → List ℕ → A × List ℕ) (t : ThreadRef) (w : List ℕ) → Q w
+    pub thread_both : {A : Type 0} (Q : List ℕ → Type 0) (refuse : Refusal → A) (f : ℕ → List ℕ → A × List ℕ) (t : ThreadRef) (w : List ℕ) → Q w
         → ((p : ℕ) → l.stack.base ≤ p → Q (f p w).1) → Q (on_thread refuse f l t w).1
     unfolding on_thread thread_body
     thread_both {A} Q refuse f t w q work = go (named l.threads t.0 t.1 w)
       where
-        go : (n : Named) → Q (on_body refuse f w (body_in l.threads n)).1
-        go (At i) = work (body_at l.threads i) (body_place 5 i (omega arith))
-        go Stale = q
+        go : (n : Option ℕ) → Q (on_body refuse f w (body_in l.threads n)).1
+        go (Some i) = work (body_at l.threads i) (body_place 5 i (omega arith))
+        go None = q
 
     -- or one of any kind.
-    pub named_both : (Q : List ℕ → Type 0) (k : ℕ) → k ≤ 5 → (i g : ℕ) (f : ℕ → List ℕ → Served × List ℕ) (w : List ℕ) → Q w
+    pub named_both : (Q : List ℕ → Type 0) (k : ℕ) → k ≤ 5 → (i g : ℕ) (f : ℕ → List ℕ → Result Unit Refusal × List ℕ) (w : List ℕ) → Q w
         → ((p : ℕ) → l.stack.base ≤ p → Q (f p w).1) → Q (on_named (arena_of l k) i g f w).1
     named_both Q k h i g f w q work = go (named (arena_of l k) i g w)
       where
-        go : (n : Named) → Q (at_named (arena_of l k) n f w).1
-        go (At j) = work (body_at (arena_of l k) j) (body_place k j h)
-        go Stale = q
+        go : (n : Option ℕ) → Q (at_named (arena_of l k) n f w).1
+        go (Some j) = work (body_at (arena_of l k) j) (body_place k j h)
+        go None = q

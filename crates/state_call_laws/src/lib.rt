@@ -1,11 +1,2 @@
-// Each call that is no step of the collector keeps what holds of every heap: all of it stands in specs/. A crate has a function, so here is one.
+// Each call that is no step of the collector keeps what holds of every heap: all of it stands in specs/.
 #![tactic(auto)]
-
-ghost use Rattle.std.specs.Prelude.{◌≡◌};
-
-// The number that it is given.
-pub fn same(x: u32) -> u32
-    ensures { result ≡ x }
-{
-    x
-}

@@ -1,7 +1,7 @@
 -- A slot taken in the current white keeps the state, and is never refused for damage. Assumes nothing.
 --     made_calm, take_count, worth_more     a slot taken: one more is counted, and worth its size
 --     begun_state       its record is cleared, and its size is in the total
-use Rattle.std.specs.Prelude.{◌≡◌, Bool, ◌⊎◌, ◌≢◌}
+use Rattle.std.specs.Prelude.{◌≡◌, Bool, ◌⊎◌, ◌≢◌, Ok, Err, Result}
 use Rattle.std.proofs.Math.Path.{refl, sym, subst}
 use Rattle.std.proofs.Common.{ap, ◌∙◌, inl, inr, arith, ne_eqb}
 use Rattle.std.proofs.Math.Bool.{false}
@@ -13,8 +13,8 @@ use Rattle.std.proofs.Math.Seq.{get_or-set_same, get_or-set_other}
 use Rattle.base.specs.Ways.{le_yes, le_no}
 use Rattle.base.specs.Words.{at, put, clear, more}
 use Rattle.base.specs.Heap.{heap}
-use Rattle.arena.specs.declared.Took.{Took}
-use Rattle.arena.specs.declared.Took.TheVariants.{Slot, Full}
+use Rattle.arena.specs.declared.Untaken.{Untaken}
+use Rattle.arena.specs.declared.Untaken.TheVariants.{NoneFree}
 use Rattle.arena.specs.Slots.{Room, known, colour, fresh, count, take_slot}
 use Rattle.arena_laws.specs.Chain.{WellFormed}
 use Rattle.arena_laws.specs.Words.{clear_out}
@@ -155,7 +155,7 @@ module _ (l : Lay) (ok : Laid l) (a : Apart l) (r : Rows l) where
     other_count j h d = (other j h d).header ((arena_of l j).top + 2) (omega arith) (omega arith)
 
   -- One slot more is counted.
-  take_count : (k : ℕ) → k ≤ 5 → (n i gen : ℕ) {w b : List ℕ} → State l (heap w b) → (take_slot (arena_of l k) (at w WHITE) n w).0 ≡ Slot i gen
+  take_count : (k : ℕ) → k ≤ 5 → (n i gen : ℕ) {w b : List ℕ} → State l (heap w b) → (take_slot (arena_of l k) (at w WHITE) n w).0 ≡ Ok (i, gen)
       → count (arena_of l k) (take_slot (arena_of l k) (at w WHITE) n w).1 ≡ count (arena_of l k) w + 1
   take_count k g n i gen {w} {b} s e = go (take_cases (arena_of l k) (at w WHITE) n w room v s.low (omega (arith, s.high)))
     where
@@ -171,7 +171,7 @@ module _ (l : Lay) (ok : Laid l) (a : Apart l) (r : Rows l) where
       next : (x : ℕ) → x ≡ more (count (arena_of l k) w) → x ≡ count (arena_of l k) w + 1
       next x e = omega (arith, e, few)
 
-      counted : Took × List ℕ → ℕ
+      counted : Result (ℕ × ℕ) Untaken × List ℕ → ℕ
       counted x = count (arena_of l k) x.1
 
       go : Takes (arena_of l k) (at w WHITE) n w room v s.low (omega (arith, s.high)) → count (arena_of l k) (take_slot (arena_of l k) (at w WHITE) n w).1 ≡ count (arena_of l k) w + 1
@@ -179,9 +179,9 @@ module _ (l : Lay) (ok : Laid l) (a : Apart l) (r : Rows l) where
           let m = (v.is j).0 (subst (λ (x : List ℕ). Memᴰ j x) (sym f) (Memᴰ.head refl)) in
           next _ (ap counted q ∙ (popped_is (arena_of l k) j w room (omega (arith, m.0, v.within)) (at w WHITE) n).count)
       go (opens f h q) = next _ (ap counted q ∙ (opened_is (arena_of l k) (fresh (arena_of l k) w) w room h (at w WHITE) n).count)
-      go (fills q f) = absurd (never (sym e ∙ ap (λ (x : Took × List ℕ). x.0) q))
+      go (fills q f) = absurd (never (sym e ∙ ap (λ (x : Result (ℕ × ℕ) Untaken × List ℕ). x.0) q))
         where
-          never : Slot i gen ≡ Full → ⊥
+          never : ◌≡◌ {A = Result (ℕ × ℕ) Untaken} (Ok (i, gen)) (Err NoneFree) → ⊥
           never p =
               let z : ◌≡◌ {A = ℕ} 0 1 = cc in
               omega (arith, z)
@@ -204,7 +204,7 @@ module _ (l : Lay) (ok : Laid l) (a : Apart l) (r : Rows l) where
       more x y z f = omega (arith, f)
 
   -- A slot is taken, its record cleared, and its size is in the total.
-  module _ (k : ℕ) (g : k ≤ 5) (n i gen : ℕ) {w b : List ℕ} (s : State l (heap w b)) (e : (take_slot (arena_of l k) (at w WHITE) n w).0 ≡ Slot i gen)
+  module _ (k : ℕ) (g : k ≤ 5) (n i gen : ℕ) {w b : List ℕ} (s : State l (heap w b)) (e : (take_slot (arena_of l k) (at w WHITE) n w).0 ≡ Ok (i, gen))
       (m : Made (arena_of l k) (at w WHITE) n w (take_slot (arena_of l k) (at w WHITE) n w).1 i gen) (fits : at w TOTAL + kind_size k ≤ 2147483647) where
     abbrev u : List ℕ
     u = (take_slot (arena_of l k) (at w WHITE) n w).1

@@ -5,7 +5,7 @@
 --     plainly_put, .., past_put, ..     stores
 --     plain_state, plain_text     it keeps the state
 --     out_state, top_state, opens_state, frame_state     so do a hand-out at Finalize, and counts within their parts
-use Rattle.std.specs.Prelude.{◌≡◌, refl, Bool, true, false, cond, ◌⊎◌, ◌≢◌, ℕ, ◌+◌, ◌≤◌, ◌<◌, length}
+use Rattle.std.specs.Prelude.{◌≡◌, refl, Bool, true, false, cond, ◌⊎◌, ◌≢◌, ℕ, ◌+◌, ◌≤◌, ◌<◌, length, Option}
 use Rattle.std.proofs.Common.{sym, subst, ap, ◌∙◌, inl, inr, ⊎_elim, arith, length-set, get_or-set_same, get_or-set_other}
 use mathlib.Core.List.{List}
 use Rattle.std.proofs.Math.Decide.{dec_lt, ℕ_discrete}
@@ -16,7 +16,6 @@ use Rattle.base.specs.Heap.{heap}
 use Rattle.arena.specs.Slots.{count}
 use Rattle.arena_laws.specs.Frames.{Untouched, kept_fresh, kept_colour, frame_keeps}
 use Rattle.value.specs.declared.Value.{Value}
-use Rattle.value.specs.declared.Handle.{Handle}
 use Rattle.value.specs.Handles.{put_handle}
 use Rattle.value.specs.Values.{put_value}
 use Rattle.layout.specs.declared.Lay.{Lay}
@@ -143,7 +142,7 @@ module _ (l : Lay) (ok : Laid l) (a : Apart l) where
   pub plainly_two : {w u : List ℕ} (p m n : ℕ) → Plain l p → Plain l (p + 1) → Plainly l w u → Plainly l w (put (p + 1) n (put p m u))
   plainly_two p m n f g s = plainly_put (p + 1) n g (plainly_put p m f s)
 
-  pub plainly_handle : {w u : List ℕ} (p : ℕ) (h : Handle) → Plain l p → Plain l (p + 1) → Plainly l w u → Plainly l w (put_handle p h u)
+  pub plainly_handle : {w u : List ℕ} (p : ℕ) (h : Option (ℕ × ℕ)) → Plain l p → Plain l (p + 1) → Plainly l w u → Plainly l w (put_handle p h u)
   unfolding put_handle
   plainly_handle p h f g s = plainly_put (p + 1) _ g (plainly_put p _ f s)
 
@@ -157,7 +156,7 @@ module _ (l : Lay) (ok : Laid l) (a : Apart l) where
   pub past_two : {w u : List ℕ} (p m n : ℕ) → l.stack.base ≤ p → Plainly l w u → Plainly l w (put (p + 1) n (put p m u))
   past_two p m n f s = past_put (p + 1) n (omega (arith, f)) (past_put p m f s)
 
-  pub past_handle : {w u : List ℕ} (p : ℕ) (h : Handle) → l.stack.base ≤ p → Plainly l w u → Plainly l w (put_handle p h u)
+  pub past_handle : {w u : List ℕ} (p : ℕ) (h : Option (ℕ × ℕ)) → l.stack.base ≤ p → Plainly l w u → Plainly l w (put_handle p h u)
   past_handle p h f s = plainly_handle p h (past f) (past (omega (arith, f))) s
 
   pub past_value : {w u : List ℕ} (p : ℕ) (v : Value) → l.stack.base ≤ p → Plainly l w u → Plainly l w (put_value p v u)

@@ -2,7 +2,7 @@
 --     push_room, pop_room, clear_room     a push, a pop, a clearing of one list
 --     only_lists        the counts of the other lists stay
 --     moves_lists       all that marking does
-use Rattle.std.specs.Prelude.{◌≡◌, List as Words, ℕ, ◌+◌, ◌-◌, ◌*◌, ◌≤◌, ◌<◌, length}
+use Rattle.std.specs.Prelude.{◌≡◌, List as Words, ℕ, ◌+◌, ◌-◌, ◌*◌, ◌≤◌, ◌<◌, length, Option}
 use Rattle.std.proofs.Common.{sym, subst, ap, ◌∙◌, inl, arith, get_or-set_other}
 use Rattle.std.proofs.Math.Decide.{dec_lt, ℕ_discrete}
 use Rattle.std.proofs.Math.Seq.{get_or-set_same}
@@ -11,7 +11,6 @@ use Rattle.arena_laws.specs.Words.{clear_length}
 use Rattle.layout.specs.declared.List.{List}
 use Rattle.layout.specs.declared.Lay.{Lay}
 use Rattle.lists.specs.declared.Item.{Item}
-use Rattle.lists.specs.declared.Popped.{Popped}
 use Rattle.lists.specs.Lists.{RoomFor, damage, length_of, push, pop, cleared}
 use Rattle.lists.proofs.Laws.{push_stored, push_full, stored_count, pop_none, pop_some, taken_count}
 use Rattle.lists.specs.Laws as lists
@@ -39,8 +38,8 @@ module _ (b : List) (w : Words ℕ) (ok : RoomFor b w) where
   pop_room h = go (ℕ_discrete (length_of b w) 0)
     where
       go : Dec (length_of b w ≡ 0) → at (pop b w).1 b.count ≤ b.room
-      go (yes e) = omega (arith, h, ap (λ (x : Popped × Words ℕ). at x.1 b.count) (pop_none b w e))
-      go (no d) = omega (arith, h, ap (λ (x : Popped × Words ℕ). at x.1 b.count) (pop_some b w d) ∙ taken_count b (length_of b w - 1) w ok (omega (arith, d)))
+      go (yes e) = omega (arith, h, ap (λ (x : Option Item × Words ℕ). at x.1 b.count) (pop_none b w e))
+      go (no d) = omega (arith, h, ap (λ (x : Option Item × Words ℕ). at x.1 b.count) (pop_some b w d) ∙ taken_count b (length_of b w - 1) w ok (omega (arith, d)))
 
   pub clear_room : at (cleared b w) b.count ≤ b.room
   unfolding cleared

@@ -5,15 +5,15 @@
 --     State             what holds of a heap with the layout l
 --     Calm, calm_state  a change that a call makes to the words, and that it keeps the state
 --     call_state, marked_state     a public call keeps the state where its work does
-use Rattle.std.specs.Prelude.{◌≡◌, refl, Bool, true, false, cond, ◌⊎◌, ◌≢◌, List, ℕ, zero, suc, min, ◌+◌, ◌*◌, ◌≤◌, ◌<◌, eqb, length}
+use Rattle.std.specs.Prelude.{◌≡◌, refl, Bool, true, false, cond, ◌⊎◌, ◌≢◌, List, ℕ, zero, suc, min, ◌+◌, ◌*◌, ◌≤◌, ◌<◌, eqb, length, Ok, Err, Result}
 use Rattle.std.proofs.Common.{sym, subst, ap, ◌∙◌, inl, inr, ⊎_elim, arith}
 use Rattle.base.specs.Words.{at}
 use Rattle.base.specs.Heap.{Heap, heap}
+use Rattle.base.specs.declared.Refusal.TheVariants.{Unfit, Damaged}
+use Rattle.base.specs.declared.Refusal.{Refusal}
 use Rattle.arena.specs.Slots.{colour, fresh, count}
 use Rattle.layout.specs.declared.Sizes.{Sizes}
 use Rattle.layout.specs.declared.Lay.{Lay}
-use Rattle.layout.specs.declared.Opened.{Opened}
-use Rattle.layout.specs.declared.Opened.TheVariants.{Fits, Refused}
 use Rattle.layout.specs.Places.{PROTOTYPES, TOP, OPENS, CI, DAMAGE, PHASE, WHITE, CURSOR_ARENA, CURSOR_SLOT, TOTAL, INTERRUPTED}
 use Rattle.layout.specs.Layout.{lay_of}
 use Rattle.test1.specs.Test1.{sizes_at, accepted, opened}
@@ -274,24 +274,24 @@ calm_state {l} {w} {b} {u} {c} ok s m o e = record {
     now = m.fixed WHITE (mark (omega arith) (omega arith))
 
 -- What a call begins with: a refusal, or the layout of the sizes in the header.
-opened_is : (w : List ℕ) (m : ℕ) (P : Opened → Type 0) → P (Fits (sizes_at w)) → ((n : ℕ) → P (Refused n)) → P (opened w m)
+opened_is : (w : List ℕ) (m : ℕ) (P : Result Sizes Refusal → Type 0) → P (Ok (sizes_at w)) → ((n : Refusal) → P (Err n)) → P (opened w m)
 unfolding opened
 opened_is w m P f r = go (accepted w m) (eqb (at w DAMAGE) 0)
   where
-    go : (a d : Bool) → P (cond a (cond d (Fits (sizes_at w)) (Refused 8)) (Refused 1))
+    go : (a d : Bool) → P (cond a (cond d (Ok (sizes_at w)) (Err Damaged)) (Err Unfit))
     go true true = f
-    go true false = r 8
-    go false d = r 1
+    go true false = r Damaged
+    go false d = r Unfit
 
 -- So a public call keeps the state where its work does.
-module _ {A : Type 0} (refuse : ℕ → A) (f : Lay → Heap → A × Heap) (l : Lay) (h : Heap) (s : State l h) (work : State l (f l h).1) where
+module _ {A : Type 0} (refuse : Refusal → A) (f : Lay → Heap → A × Heap) (l : Lay) (h : Heap) (s : State l h) (work : State l (f l h).1) where
   there : State l (f (lay_of (sizes_at h.words)) h).1
   there = subst (λ (k : Lay). State l (f k h).1) (sym s.sizes) work
 
   pub call_state : State l (call refuse f h).1
   unfolding call
-  call_state = opened_is h.words (length h.bytes) (λ (o : Opened). State l (on_opened refuse f h o).1) there (λ n. s)
+  call_state = opened_is h.words (length h.bytes) (λ (o : Result Sizes Refusal). State l (on_opened refuse f h o).1) there (λ n. s)
 
   pub marked_state : State l (call_marked refuse f h).1
   unfolding call_marked
-  marked_state = opened_is h.words (length h.bytes) (λ (o : Opened). State l (on_marked refuse f h o).1) there (λ n. s)
+  marked_state = opened_is h.words (length h.bytes) (λ (o : Result Sizes Refusal). State l (on_marked refuse f h o).1) there (λ n. s)

@@ -1,13 +1,13 @@
 -- A slot taken in the current white. Assumes nothing.
 --     kind_size     what it is worth in the total
 --     Begun         what all calls that make an object begin with: a refusal, or a new record past the prototypes
+use Rattle.std.specs.Prelude.{Ok, Err, Result}
 use mathlib.Core.List.{List}
 use Prim.Native.Nat.{ℕ, zero, suc, ◌≤◌}
 use Rattle.base.specs.Heap.{heap}
+use Rattle.base.specs.declared.Refusal.{Refusal}
 use Rattle.layout.specs.declared.Lay.{Lay}
 use Rattle.laid.specs.Laid.{Laid}
-use Rattle.making.specs.declared.New.{New}
-use Rattle.making.specs.declared.New.TheVariants.{At, Refused}
 use Rattle.mark_laws.specs.Apart.{Apart}
 use Rattle.sweep_laws.specs.Places.{Rows}
 use Rattle.state_laws.specs.State.{State}
@@ -23,6 +23,6 @@ kind_size (suc (suc (suc (suc (suc k))))) = 256
 
 module _ (l : Lay) (ok : Laid l) (a : Apart l) (r : Rows l) where
   -- A new object: its record lies past the prototypes.
-  abbrev pub Begun : List ℕ → New × List ℕ → Type 0
-  Begun b (At i g p, u) = State l (heap u b) × (l.stack.base ≤ p)
-  Begun b (Refused k, u) = State l (heap u b)
+  abbrev pub Begun : List ℕ → Result (ℕ × ℕ × ℕ) Refusal × List ℕ → Type 0
+  Begun b (Ok (i, g, p), u) = State l (heap u b) × (l.stack.base ≤ p)
+  Begun b (Err k, u) = State l (heap u b)

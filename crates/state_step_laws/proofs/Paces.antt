@@ -4,13 +4,18 @@
 --     drive_state              steps until a phase, as far as they come
 --     drive_final, drive_sweep     from the sweep or Finalize so many steps as are made come to Pause, or hand a finalizer out
 --     first_state, second_state     both halves of a full collection
-use Rattle.std.specs.Prelude.{◌≡◌, ◌⊎◌}
+use Rattle.std.specs.Prelude.{◌≡◌, ◌⊎◌, Ok, Result, Some, None, Option}
 use Rattle.std.proofs.Common.{sym, subst, ap, ◌∙◌, inl, inr, ⊎_elim, arith}
 use mathlib.Core.List.{List}
 use Prim.Native.Nat.{ℕ, zero, suc, min, ◌+◌, ◌-◌, ◌≤◌, ◌<◌}
 use Rattle.std.proofs.Math.Decide.{ℕ_discrete, dec_lt}
 use Rattle.base.specs.Words.{at}
 use Rattle.base.specs.Heap.{Heap, heap}
+use Rattle.base.specs.declared.Refusal.{Refusal}
+use Rattle.std.specs.declared.ops.ControlFlow.TheVariants.{Continue, Break}
+use Rattle.std.specs.declared.ops.ControlFlow.{ControlFlow}
+use Rattle.value.specs.declared.Value.{Value}
+use Rattle.value.specs.declared.UdRef.{UdRef}
 use Rattle.layout.specs.declared.Lay.{Lay}
 use Rattle.layout.specs.Places.{PHASE}
 use Rattle.lists.specs.Lists.{length_of}
@@ -18,14 +23,10 @@ use Rattle.laid.specs.Laid.{Laid}
 use Rattle.mark.specs.Words.{arena_of}
 use Rattle.accounts.specs.declared.Answer.{Answer}
 use Rattle.accounts.specs.declared.Answer.TheVariants.{Unfinished, Ended}
-use Rattle.accounts.specs.declared.Turn.{Turn}
-use Rattle.accounts.specs.declared.Turn.TheVariants.{Left, Over}
 use Rattle.accounts.specs.Accounts.{update_threshold, step_ends, after_cost, grown}
 use Rattle.step.specs.declared.Single.{Single}
 use Rattle.step.specs.declared.Single.TheVariants.{Cost, Out}
 use Rattle.step.specs.Step.{start_cycle, single_step}
-use Rattle.pace.specs.declared.Half.{Half}
-use Rattle.pace.specs.declared.Half.TheVariants as half
 use Rattle.pace.specs.Pace.{steps_most, turned, turn, on_turn, budgeted_for, budgeted, on_step, driven_for, driven, on_half, over, full_second, full_first, automatic}
 use Rattle.mark_laws.specs.Apart.{Apart}
 use Rattle.room_laws.specs.Tallies.{Ample}
@@ -73,14 +74,14 @@ before_all l = omega arith
 module _ (l : Lay) (ok : Laid l) (a : Apart l) (r : Rows l) where
   module _ (am : Ample l) (y : Bodies l) where
     -- the definitions of specs/Paces.antt, for these
-    abbrev Turned : Turn × Heap → Type 0
+    abbrev Turned : ControlFlow (Result Answer Refusal) ℕ × Heap → Type 0
     Turned = Rattle.state_step_laws.specs.Paces.Turned l ok a r am y
 
     pub cost_state : (left c : ℕ) {w b : List ℕ} → Free l (heap w b) → Turned ((after_cost left c w).0, heap (after_cost left c w).1 b)
     unfolding after_cost
     cost_state left c {w} {b} s =
-        eq_both (λ (x : Turn × List ℕ). Turned (x.0, heap x.1 b)) (at w PHASE) 0 (Over Ended, update_threshold w) _ (λ e. plain_state l ok a r (cycle_plain l ok a r s.state) s.state)
-        (λ d. le_both (λ (x : Turn × List ℕ). Turned (x.0, heap x.1 b)) left c (Over Unfinished, step_ends w) (Left (left - c), w) (λ e. plain_state l ok a r (ends_plain l ok a r w) s.state) (λ e. s))
+        eq_both (λ (x : ControlFlow (Result Answer Refusal) ℕ × List ℕ). Turned (x.0, heap x.1 b)) (at w PHASE) 0 (Break (Ok Ended), update_threshold w) _ (λ e. plain_state l ok a r (cycle_plain l ok a r s.state) s.state)
+        (λ d. le_both (λ (x : ControlFlow (Result Answer Refusal) ℕ × List ℕ). Turned (x.0, heap x.1 b)) left c (Break (Ok Unfinished), step_ends w) (Continue (left - c), w) (λ e. plain_state l ok a r (ends_plain l ok a r w) s.state) (λ e. s))
 
     turned_state : (kind left : ℕ) (x : Single × Heap) → After l ok a r am y x → Turned (turned kind left x)
     turned_state kind left (Cost c, h) s = cost_state left c s
@@ -90,9 +91,9 @@ module _ (l : Lay) (ok : Laid l) (a : Apart l) (r : Rows l) where
     unfolding turn
     turn_state kind left h s = turned_state kind left (single_step l h) (single_after l ok a r am y h s)
 
-    pub on_turn_lem : (x : Turn × Heap) (on : ℕ → Heap → Answer × Heap) → Turned x → ((k : ℕ) (h : Heap) → Free l h → State l (on k h).1) → State l (on_turn x on).1
-    on_turn_lem (Left k, h) on s go = go k h s
-    on_turn_lem (Over z, h) on s go = s
+    pub on_turn_lem : (x : ControlFlow (Result Answer Refusal) ℕ × Heap) (on : ℕ → Heap → Result Answer Refusal × Heap) → Turned x → ((k : ℕ) (h : Heap) → Free l h → State l (on k h).1) → State l (on_turn x on).1
+    on_turn_lem (Continue k, h) on s go = go k h s
+    on_turn_lem (Break z, h) on s go = s
 
     for_state : (n kind left : ℕ) (h : Heap) → Free l h → State l (budgeted_for n l kind left h).1
     unfolding budgeted_for
@@ -108,10 +109,10 @@ module _ (l : Lay) (ok : Laid l) (a : Apart l) (r : Rows l) where
     unfolding automatic
     automatic_state kind h s = budgeted_state kind _ (heap (grown h.words) h.bytes) (free_plain l ok a r (grown_plain l ok a r h.words) s)
 
-    abbrev Driven : Half × Heap → Type 0
+    abbrev Driven : Option (UdRef × Value) × Heap → Type 0
     Driven = Rattle.state_step_laws.specs.Paces.Driven l ok a r am y
 
-    on_step_lem : (kind : ℕ) (x : Single × Heap) (on : Heap → Half × Heap) → After l ok a r am y x → ((g : Heap) → Free l g → Driven (on g)) → Driven (on_step kind x on)
+    on_step_lem : (kind : ℕ) (x : Single × Heap) (on : Heap → Option (UdRef × Value) × Heap) → After l ok a r am y x → ((g : Heap) → Free l g → Driven (on g)) → Driven (on_step kind x on)
     on_step_lem kind (Cost c, h) on s go = go h s
     on_step_lem kind (Out z v, h) on s go = handed_state l ok a r kind z 0 s.1 s.0.state
 
@@ -119,22 +120,22 @@ module _ (l : Lay) (ok : Laid l) (a : Apart l) (r : Rows l) where
     unfolding driven_for
     drive_state zero kind end h s = s
     drive_state (suc n) kind end h s =
-        le_both Driven (at h.words PHASE) end (half.Through, h) (on_step kind (single_step l h) (λ g. driven_for n l kind end g)) (λ e. s)
+        le_both Driven (at h.words PHASE) end (None, h) (on_step kind (single_step l h) (λ g. driven_for n l kind end g)) (λ e. s)
         (λ e. on_step_lem kind (single_step l h) (λ g. driven_for n l kind end g) (single_after l ok a r am y h s) (λ g t. drive_state n kind end g t))
 
     -- The second half of a full collection.
-    on_second : (x : Half × Heap) → Driven x → State l (on_half x (over update_threshold Ended)).1
-    on_second (half.Through, h) s = plain_state l ok a r (cycle_plain l ok a r s.state) s.state
-    on_second (half.Handed z v, h) s = s
+    on_second : (x : Option (UdRef × Value) × Heap) → Driven x → State l (on_half x (over update_threshold (Ok Ended))).1
+    on_second (None, h) s = plain_state l ok a r (cycle_plain l ok a r s.state) s.state
+    on_second (Some (z, v), h) s = s
 
     pub second_state : (h : Heap) → Free l h → State l (full_second l h).1
     unfolding full_second driven
     second_state h s = on_second (driven_for (steps_most l) l 5 0 h) (drive_state (steps_most l) 5 0 h s)
 
-    abbrev Through : Half × Heap → Type 0
+    abbrev Through : Option (UdRef × Value) × Heap → Type 0
     Through = Rattle.state_step_laws.specs.Paces.Through l ok a r am y
 
-    step_through : (kind : ℕ) (x : Single × Heap) (on : Heap → Half × Heap) → After l ok a r am y x → Through (on x.1) → Through (on_step kind x on)
+    step_through : (kind : ℕ) (x : Single × Heap) (on : Heap → Option (UdRef × Value) × Heap) → After l ok a r am y x → Through (on x.1) → Through (on_step kind x on)
     step_through kind (Cost c, h) on s t = t
     step_through kind (Out z v, h) on s t = handed_state l ok a r kind z 0 s.1 s.0.state
 
@@ -143,13 +144,13 @@ module _ (l : Lay) (ok : Laid l) (a : Apart l) (r : Rows l) where
     unfolding driven_for
     drive_there zero kind h s p = (s, p)
     drive_there (suc n) kind h s p =
-        le_both Through (at h.words PHASE) 1 (half.Through, h) (on_step kind (single_step l h) (λ g. driven_for n l kind 1 g)) (λ e. (s, p)) (λ e. absurd (let z : ⊥ = omega (arith, e, p) in z))
+        le_both Through (at h.words PHASE) 1 (None, h) (on_step kind (single_step l h) (λ g. driven_for n l kind 1 g)) (λ e. (s, p)) (λ e. absurd (let z : ⊥ = omega (arith, e, p) in z))
 
     -- one step on
     drive_step : (n kind : ℕ) (h : Heap) → Free l h → 1 < at h.words PHASE → Through (driven_for n l kind 1 (single_step l h).1) → Through (driven_for (suc n) l kind 1 h)
     unfolding driven_for
     drive_step n kind h s p t =
-        le_both Through (at h.words PHASE) 1 (half.Through, h) (on_step kind (single_step l h) (λ g. driven_for n l kind 1 g)) (λ e. absurd (let z : ⊥ = omega (arith, e, p) in z))
+        le_both Through (at h.words PHASE) 1 (None, h) (on_step kind (single_step l h) (λ g. driven_for n l kind 1 g)) (λ e. absurd (let z : ⊥ = omega (arith, e, p) in z))
         (λ e. step_through kind (single_step l h) (λ g. driven_for n l kind 1 g) (single_after l ok a r am y h s) t)
 
     -- from Finalize: a step for each that is queued, and one
@@ -262,9 +263,9 @@ module _ (l : Lay) (ok : Laid l) (a : Apart l) (r : Rows l) where
             drive_final (steps_most l) kind h s (⊎_elim (λ z. absurd (let y : ⊥ = omega (arith, z, p) in y)) (λ z. z) (swept_past t c d).1) (ready (length_of l.queue h.words) few)
 
     -- The first half of a full collection, then the second.
-    on_first : (x : Half × Heap) → Through x → State l (on_half x (λ g. full_second l (heap (start_cycle l g.words) g.bytes))).1
-    on_first (half.Through, h) s = second_state (heap (start_cycle l h.words) h.bytes) (start_free l ok a r am s.1 s.0.state)
-    on_first (half.Handed z v, h) s = s
+    on_first : (x : Option (UdRef × Value) × Heap) → Through x → State l (on_half x (λ g. full_second l (heap (start_cycle l g.words) g.bytes))).1
+    on_first (None, h) s = second_state (heap (start_cycle l h.words) h.bytes) (start_free l ok a r am s.1 s.0.state)
+    on_first (Some (z, v), h) s = s
 
     pub first_state : (h : Heap) → Free l h → 2 ≤ at h.words PHASE → State l (full_first l h).1
     unfolding full_first

@@ -2,7 +2,7 @@
 --     swept_on, swept_past     which phase the sweep's place tells of
 --     final_free               a step in Finalize: an item is taken out of the queue, or the cycle ends
 --     single_after             a single step; one that hands a finalizer out leaves the phase Finalize
-use Rattle.std.specs.Prelude.{◌≡◌, refl, ◌⊎◌, ◌≢◌, length}
+use Rattle.std.specs.Prelude.{◌≡◌, refl, ◌⊎◌, ◌≢◌, length, Some, None, Option}
 use Rattle.std.proofs.Common.{sym, ap, ◌∙◌, inl, inr, arith, get_or-set_other}
 use Rattle.std.proofs.Math.Path.{subst}
 use Rattle.std.proofs.Math.Logic.{⊎_elim}
@@ -19,8 +19,6 @@ use Rattle.layout.specs.Layout.{lay_of}
 use Rattle.value.specs.Values.{is_nil}
 use Rattle.lists.specs.declared.Item.{Item}
 use Rattle.lists.specs.declared.Item.TheVariants.{Table, Function, Userdata, Thread, Main, Unknown}
-use Rattle.lists.specs.declared.Popped.{Popped}
-use Rattle.lists.specs.declared.Popped.TheVariants.{Got, Nothing}
 use Rattle.lists.specs.Lists.{length_of, item_at, pop, taken}
 use Rattle.lists.proofs.Laws.{pop_none, pop_some, pop_length, pop_long, pop_kept}
 use Rattle.laid.specs.Laid.{Laid, queue_room_lem}
@@ -69,7 +67,7 @@ late (Cost c, u) e = tt
 late (Out y v, u) e = e
 
 -- An item's turn leaves the total.
-item_total : (l : Lay) (x : Item) (v : List ℕ) → at (finalized l (Got x, v)).1 TOTAL ≡ at v TOTAL
+item_total : (l : Lay) (x : Item) (v : List ℕ) → at (finalized l (Some x, v)).1 TOTAL ≡ at v TOTAL
 unfolding finalize_item finalize
 item_total l (Userdata r) v =
     cond_both (λ (y : Single × List ℕ). at y.1 TOTAL ≡ at v TOTAL) (is_nil (method_of l r v)) _ _
@@ -167,7 +165,7 @@ module _ (l : Lay) (ok : Laid l) (a : Apart l) (r : Rows l) where
     -- The end of the cycle, where the queue is empty.
     end_free : length_of l.queue w ≡ 0 → Final (heap w b) (heap (end_cycle w) b)
     end_free e =
-        let t = item_words {E = Unit {0}} l w room Nothing (λ z. tt) in
+        let t = item_words {E = Unit {0}} l w room None (λ z. tt) in
         record { free = final_state (end_cycle w) t.long (λ x f d g. t.word x f) total (subst (λ (k : ℕ). k ≤ l.queue.room) (sym (count_same t)) s.lists.queue) (inr (done, queue_same t ∙ e)); phase = inl done }
       where
         n : ℕ
@@ -181,29 +179,29 @@ module _ (l : Lay) (ok : Laid l) (a : Apart l) (r : Rows l) where
 
     -- An item is taken out.
     item_free : (x : Item) (v : List ℕ) → length v ≡ length w → ((q : ℕ) → q ≢ 72 → (q < l.queue.base) ⊎ (l.boundary ≤ q) → at v q ≡ at w q) → length_of l.queue v + 1 ≡ length_of l.queue w
-        → at v l.queue.count ≤ l.queue.room → Final (heap w b) (heap (finalized l (Got x, v)).1 b) × (at (finalized l (Got x, v)).1 PHASE ≡ 4)
+        → at v l.queue.count ≤ l.queue.room → Final (heap w b) (heap (finalized l (Some x, v)).1 b) × (at (finalized l (Some x, v)).1 PHASE ≡ 4)
     item_free x v e word n fits =
-        let t = item_words {E = ⊥} l v (omega (arith, room, e)) (Got x) (λ z. never z) in
-        let phase : at (finalized l (Got x, v)).1 PHASE ≡ 4 = ⊎_elim (λ z. z) (λ z. absurd z.1) t.phase ∙ word PHASE (omega arith) (inl (omega (arith, o.header, a))) ∙ p in (
+        let t = item_words {E = ⊥} l v (omega (arith, room, e)) (Some x) (λ z. never z) in
+        let phase : at (finalized l (Some x, v)).1 PHASE ≡ 4 = ⊎_elim (λ z. z) (λ z. absurd z.1) t.phase ∙ word PHASE (omega arith) (inl (omega (arith, o.header, a))) ∙ p in (
           record {
-            free = final_state (finalized l (Got x, v)).1 (t.long ∙ e) (λ q f d g. t.word q f ∙ word q d g) (item_total l x v ∙ word TOTAL (omega arith) (inl (omega (arith, o.header, a)))) (subst (λ (k : ℕ). k ≤ l.queue.room) (sym (count_same t)) fits) (inl phase);
+            free = final_state (finalized l (Some x, v)).1 (t.long ∙ e) (λ q f d g. t.word q f ∙ word q d g) (item_total l x v ∙ word TOTAL (omega arith) (inl (omega (arith, o.header, a)))) (subst (λ (k : ℕ). k ≤ l.queue.room) (sym (count_same t)) fits) (inl phase);
             phase = inr (phase, ap (λ (k : ℕ). k + 1) (queue_same t) ∙ n);
           },
           phase,
         )
       where
-        gotten : Popped → ℕ
-        gotten Nothing = 0
-        gotten (Got y) = 1
+        gotten : Option Item → ℕ
+        gotten None = 0
+        gotten (Some y) = 1
 
-        never : Got x ≡ Nothing → ⊥
+        never : Some x ≡ None → ⊥
         never z = let k : ◌≡◌ {A = ℕ} 1 0 = ap gotten z in omega (arith, k)
 
     pub final_free : Final (heap w b) (heap (finalize_step l w).1 b) × Late (finalize_step l w)
     unfolding finalize_step
     final_free = go (ℕ_discrete (length_of l.queue w) 0)
       where
-        P : Popped × List ℕ → Type 0
+        P : Option Item × List ℕ → Type 0
         P x = Final (heap w b) (heap (finalized l x).1 b) × Late (finalized l x)
 
         go : Dec (length_of l.queue w ≡ 0) → Final (heap w b) (heap (finalized l (pop l.queue w)).1 b) × Late (finalized l (pop l.queue w))
@@ -212,13 +210,13 @@ module _ (l : Lay) (ok : Laid l) (a : Apart l) (r : Rows l) where
             let q = pop_some l.queue w d in
             let v : List ℕ = taken l.queue (length_of l.queue w - 1) w in
             let x : Item = item_at l.queue (length_of l.queue w - 1) w in
-            let is : (pop l.queue w).1 ≡ v = ap (λ (y : Popped × List ℕ). y.1) q in
+            let is : (pop l.queue w).1 ≡ v = ap (λ (y : Option Item × List ℕ). y.1) q in
             let fits = queue_room_lem l w ok s.long in
             let m = item_free x v (ap length (sym is) ∙ pop_long l.queue w fits)
             (λ y f g. ap (λ (u : List ℕ). at u y) (sym is) ∙ pop_kept l.queue w fits y (λ z. f (omega (arith, z, queue_count l ok))) (⊎_elim (λ z. inl z) (λ z. inr (omega (arith, z, a))) g))
             (less (length_of l.queue v) (length_of l.queue w) (ap (λ (u : List ℕ). length_of l.queue u) (sym is) ∙ pop_length l.queue w fits) d)
             (subst (λ (u : List ℕ). at u l.queue.count ≤ l.queue.room) is (pop_room l.queue w fits s.lists.queue)) in
-            subst P (sym q) (m.0, late (finalized l (Got x, v)) m.1)
+            subst P (sym q) (m.0, late (finalized l (Some x, v)) m.1)
           where
             less : (x y : ℕ) → x ≡ y - 1 → y ≢ 0 → x + 1 ≡ y
             less x y e d = omega (arith, e, d)

@@ -1,7 +1,7 @@
 -- The six calls that step keep the state. Assumes nothing.
 --     gave_free         marking that was under way is given up
 --     single_keeps, step_keeps, auto_keeps, check_keeps, full_keeps, finish_keeps     the calls
-use Rattle.std.specs.Prelude.{◌≡◌, Bool, ◌≢◌, ℕ, ◌+◌, ◌≤◌, ltb, ℤ, length}
+use Rattle.std.specs.Prelude.{◌≡◌, Bool, ◌≢◌, ℕ, ◌+◌, ◌≤◌, ltb, ℤ, length, Err, Result}
 use Rattle.std.proofs.Math.Path.{refl}
 use Rattle.std.proofs.Common.{sym, ap, ◌∙◌, true≢false, ⊎_elim, arith, lt-ltb}
 use Rattle.std.proofs.Math.Bool.{true, false, cond}
@@ -9,6 +9,7 @@ use mathlib.Core.List.{List, [], ◌∷◌}
 use Rattle.std.proofs.Math.Decide.{ℕ_discrete}
 use Rattle.base.specs.Words.{at, put, get64}
 use Rattle.base.specs.Heap.{Heap, heap}
+use Rattle.base.specs.declared.Refusal.{Refusal}
 use Rattle.arena_laws.specs.Words.{puts_length, puts_far, puts_at}
 use Rattle.layout.specs.declared.Lay.{Lay}
 use Rattle.layout.specs.Places.{PROTOTYPES, DAMAGE, PHASE, WHITE, CURSOR_ARENA, CURSOR_SLOT, ESTIMATE, TOTAL, THRESHOLD, INTERRUPTED, REMAINING, STEPMUL}
@@ -19,7 +20,6 @@ use Rattle.propagate.specs.Roots.{clear_lists}
 use Rattle.pacing.specs.Pacing.{budget_of, automatic_budget}
 use Rattle.sweep_step.specs.Cursor.{start, put_cursor}
 use Rattle.accounts.specs.declared.Answer.{Answer}
-use Rattle.accounts.specs.declared.Answer.TheVariants.{Refused}
 use Rattle.accounts.specs.Accounts.{grown, taken_back, after_cost}
 use Rattle.step.specs.declared.Single.{Single}
 use Rattle.step.specs.declared.Single.TheVariants.{Cost, Out}
@@ -133,7 +133,7 @@ module _ (l : Lay) (ok : Laid l) (a : Apart l) (r : Rows l) (am : Ample l) (y : 
     w = h.words
 
     -- what a call's answer leaves
-    abbrev T : Answer × Heap → Type 0
+    abbrev T : Result Answer Refusal × Heap → Type 0
     T x = State l x.1
 
     free_of : is_out h.words ≡ false → Free l h
@@ -147,7 +147,7 @@ module _ (l : Lay) (ok : Laid l) (a : Apart l) (r : Rows l) (am : Ample l) (y : 
     pub single_keeps : State l (gc_singlestep h).1
     unfolding gc_singlestep single_in
     single_keeps =
-        marked_state Refused single_in l h s
+        marked_state Err single_in l h s
         (cond_both T (is_out w) _ _ (λ e. s) (λ e. stepped_state (single_step l h) (single_after l ok a r am y h (free_of e))))
 
     -- A budgeted one.
@@ -157,13 +157,13 @@ module _ (l : Lay) (ok : Laid l) (a : Apart l) (r : Rows l) (am : Ample l) (y : 
 
     pub step_keeps : (budget : ℤ) → State l (gc_step budget h).1
     unfolding gc_step
-    step_keeps budget = marked_state Refused (budget_in (budget_of budget)) l h s (budget_state (budget_of budget) h s)
+    step_keeps budget = marked_state Err (budget_in (budget_of budget)) l h s (budget_state (budget_of budget) h s)
 
     -- One by the debt.
     pub auto_keeps : State l (gc_step_auto h).1
     unfolding gc_step_auto auto_in
     auto_keeps =
-        marked_state Refused auto_in l h s
+        marked_state Err auto_in l h s
         (budget_state (automatic_budget (at (grown w) STEPMUL)) (heap (grown w) h.bytes) (plain_state l ok a r (grown_plain l ok a r w) s))
 
     -- A check: a step is due only where none is out.
@@ -177,13 +177,13 @@ module _ (l : Lay) (ok : Laid l) (a : Apart l) (r : Rows l) (am : Ample l) (y : 
 
     pub check_keeps : State l (gc_check h).1
     unfolding gc_check check_in
-    check_keeps = marked_state Refused check_in l h s (cond_both T (is_due w) _ _ (λ e. automatic_state l ok a r am y 3 h (free_of (due_none e))) (λ e. s))
+    check_keeps = marked_state Err check_in l h s (cond_both T (is_due w) _ _ (λ e. automatic_state l ok a r am y 3 h (free_of (due_none e))) (λ e. s))
 
     -- A full collection.
     pub full_keeps : State l (full_gc h).1
     unfolding full_gc full_in
     full_keeps =
-        marked_state Refused full_in l h s
+        marked_state Err full_in l h s
         (cond_both T (is_out w) _ _ (λ e. s)
         (λ e. let g = gave_free (free_of e) in first_state l ok a r am y (heap (gave_up l w) h.bytes) g.0 g.1))
 
@@ -202,7 +202,7 @@ module _ (l : Lay) (ok : Laid l) (a : Apart l) (r : Rows l) (am : Ample l) (y : 
       (λ d. eq_both T kind 3 _ _ (λ e. steps_on_lem 3 left h c)
       (λ d. eq_both T kind 4 _ _ (λ e. first_state l ok a r am y h c p) (λ d. second_state l ok a r am y h c))))
     where
-      T : Answer × Heap → Type 0
+      T : Result Answer Refusal × Heap → Type 0
       T x = State l x.1
 
   -- Success writes the threshold and the estimate.
@@ -216,13 +216,13 @@ module _ (l : Lay) (ok : Laid l) (a : Apart l) (r : Rows l) (am : Ample l) (y : 
   pub finish_keeps : (done : Bool) (h : Heap) → State l h → State l (finish done h).1
   unfolding finish finish_in
   finish_keeps done h s =
-      marked_state Refused (finish_in done) l h s
+      marked_state Err (finish_in done) l h s
       (eq_both T (at h.words INTERRUPTED) 0 _ _ (λ e. s)
       (λ d. cond_both T done _ _
       (λ e. resumed_state (at h.words INTERRUPTED) (get64 h.words REMAINING) (heap (succeeded (taken_back h.words)) h.bytes) (free_plain l ok a r (succeeded_plain (taken_back h.words)) back) (later d))
       (λ e. back.state)))
     where
-      T : Answer × Heap → Type 0
+      T : Result Answer Refusal × Heap → Type 0
       T x = State l x.1
 
       back : Free l (heap (taken_back h.words) h.bytes)

@@ -1,5 +1,5 @@
 -- Document 01, 'Steps and pacing': the single step in each of the five phases. Assumes nothing.
-use Rattle.std.specs.Prelude.{cond, List, ℕ, ◌+◌, ◌≤◌}
+use Rattle.std.specs.Prelude.{cond, List, ℕ, ◌+◌, ◌≤◌, Some, None, Option}
 use Rattle.base.specs.Ways.{if_eq}
 use Rattle.base.specs.Words.{at, put, put64}
 use Rattle.base.specs.Heap.{Heap, heap}
@@ -11,8 +11,6 @@ use Rattle.layout.specs.declared.Lay.{Lay}
 use Rattle.layout.specs.Places.{PHASE, TOTAL, ESTIMATE, THRESHOLD, DEBT}
 use Rattle.lists.specs.declared.Item.{Item}
 use Rattle.lists.specs.declared.Item.TheVariants.{Table, Function, Userdata, Thread, Main, Unknown}
-use Rattle.lists.specs.declared.Popped.{Popped}
-use Rattle.lists.specs.declared.Popped.TheVariants.{Nothing, Got}
 use Rattle.lists.specs.Lists.{pop}
 use Rattle.record.specs.Fields.{body_at}
 use Rattle.record.specs.Userdata.{ud_meta}
@@ -78,9 +76,9 @@ finalize_item l Unknown w = (Cost 0, w)
 abbrev pub end_cycle : List ℕ → List ℕ
 end_cycle w = put64 DEBT 9223372036854775808 (put PHASE 0 w)
 
-abbrev pub finalized : Lay → Popped × List ℕ → Single × List ℕ
-finalized l (Got x, w) = finalize_item l x w
-finalized l (Nothing, w) = (Cost 0, end_cycle w)
+abbrev pub finalized : Lay → Option Item × List ℕ → Single × List ℕ
+finalized l (Some x, w) = finalize_item l x w
+finalized l (None, w) = (Cost 0, end_cycle w)
 
 unfoldable pub finalize_step : Lay → List ℕ → Single × List ℕ
 finalize_step l w = finalized l (pop l.queue w)

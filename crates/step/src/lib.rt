@@ -5,11 +5,10 @@
 ghost use Rattle.std.specs.Prelude.{◌≡◌, ◌+◌, ◌≤◌, ◌<◌, length};
 ghost use Rattle.layout.specs.Layout.{lay_of};
 ghost use Rattle.base.specs.Heap.{heap};
-ghost use Rattle.laid.specs.Laid.{Laid};
 ghost use Rattle.step.specs.Step.{Small, start_cycle, propagate_step, method_of, handed_out, lower_estimate, finalize, finalize_item, end_cycle, finalize_step, single_step};
 
-use layout::Sizes;
-use lists::{Item, Popped};
+use layout::Plan;
+use lists::Item;
 use propagate::Propagated;
 use value::{UdRef, Value};
 
@@ -21,10 +20,9 @@ pub enum Single {
 }
 
 // The lists are emptied, the roots marked, and the phase is Propagate.
-pub fn start_cycle(w: &mut [u32], l: Sizes)
-    requires laid { Laid (lay_of l) }
-    requires l_in_bounds { (lay_of l).words ≤ length w.old }
-    ensures { w.new ≡ start_cycle (lay_of l) w.old }
+pub fn start_cycle(w: &mut [u32], l: Plan)
+    requires l_in_bounds { (lay_of l.sizes).words ≤ length w.old }
+    ensures { w.new ≡ start_cycle (lay_of l.sizes) w.old }
 {
     propagate::clear_lists(w, l);
     propagate::mark_roots(w, l);
@@ -32,11 +30,10 @@ pub fn start_cycle(w: &mut [u32], l: Sizes)
 }
 
 // One gray object; where there is none, the atomic phase, at cost 0.
-fn propagate_step(w: &mut [u32], b: &[u8], l: Sizes) -> usize
-    requires laid { Laid (lay_of l) }
-    requires l_in_bounds { (lay_of l).words ≤ length w.old }
-    requires l_in_bounds_2 { (lay_of l).bytes ≤ length b.now }
-    ensures { ((result, w.new) ≡ propagate_step (lay_of l) b.now w.old) × (result ≤ 5632) }
+fn propagate_step(w: &mut [u32], b: &[u8], l: Plan) -> usize
+    requires l_in_bounds { (lay_of l.sizes).words ≤ length w.old }
+    requires l_in_bounds_2 { (lay_of l.sizes).bytes ≤ length b.now }
+    ensures { ((result, w.new) ≡ propagate_step (lay_of l.sizes) b.now w.old) × (result ≤ 5632) }
 {
     match propagate::propagate_one(w, b, l) {
         Propagated::Done(c) => c,
@@ -49,10 +46,9 @@ fn propagate_step(w: &mut [u32], b: &[u8], l: Sizes) -> usize
 }
 
 // The method is looked up now, and not as it was when the userdata was queued; nil where there is none.
-fn method_of(w: &[u32], l: Sizes, r: UdRef) -> Value
-    requires laid { Laid (lay_of l) }
-    requires l_in_bounds { (lay_of l).words ≤ length w.now }
-    ensures { result ≡ method_of (lay_of l) r w.now }
+fn method_of(w: &[u32], l: Plan, r: UdRef) -> Value
+    requires l_in_bounds { (lay_of l.sizes).words ≤ length w.now }
+    ensures { result ≡ method_of (lay_of l.sizes) r w.now }
 {
     let userdata = layout::userdata_of(l);
     if mark::shade(w, userdata, r.0, r.1) == 0 {
@@ -80,25 +76,24 @@ pub fn lower_estimate(w: &mut [u32])
     base::put(w, layout::ESTIMATE, pacing::lowered(e));
 }
 
-fn finalize(w: &mut [u32], l: Sizes, r: UdRef) -> Single
-    requires laid { Laid (lay_of l) }
-    requires l_in_bounds { (lay_of l).words ≤ length w.old }
-    ensures { ((result, w.new) ≡ finalize (lay_of l) r w.old) × Small result }
+fn finalize(w: &mut [u32], l: Plan, r: UdRef) -> Single
+    requires l_in_bounds { (lay_of l.sizes).words ≤ length w.old }
+    ensures { ((result, w.new) ≡ finalize (lay_of l.sizes) r w.old) × Small result }
 {
     let v = method_of(w, l, r);
     if value::is_nil(v) {
         lower_estimate(w);
-        return Single::Cost(100);
+        Single::Cost(100)
+    } else {
+        hand_out(w);
+        Single::Out(r, v)
     }
-    hand_out(w);
-    Single::Out(r, v)
 }
 
 // An unknown item is taken out at cost 0.
-fn finalize_item(w: &mut [u32], l: Sizes, x: Item) -> Single
-    requires laid { Laid (lay_of l) }
-    requires l_in_bounds { (lay_of l).words ≤ length w.old }
-    ensures { ((result, w.new) ≡ finalize_item (lay_of l) x w.old) × Small result }
+fn finalize_item(w: &mut [u32], l: Plan, x: Item) -> Single
+    requires l_in_bounds { (lay_of l.sizes).words ≤ length w.old }
+    ensures { ((result, w.new) ≡ finalize_item (lay_of l.sizes) x w.old) × Small result }
 {
     match x {
         Item::Userdata(r) => finalize(w, l, r),
@@ -116,14 +111,13 @@ fn end_cycle(w: &mut [u32])
 }
 
 // The queue's end.
-fn finalize_step(w: &mut [u32], l: Sizes) -> Single
-    requires laid { Laid (lay_of l) }
-    requires l_in_bounds { (lay_of l).words ≤ length w.old }
-    ensures { ((result, w.new) ≡ finalize_step (lay_of l) w.old) × Small result }
+fn finalize_step(w: &mut [u32], l: Plan) -> Single
+    requires l_in_bounds { (lay_of l.sizes).words ≤ length w.old }
+    ensures { ((result, w.new) ≡ finalize_step (lay_of l.sizes) w.old) × Small result }
 {
     match lists::pop(w, layout::queue_of(l)) {
-        Popped::Got(x) => finalize_item(w, l, x),
-        Popped::Nothing => {
+        Some(x) => finalize_item(w, l, x),
+        None => {
             end_cycle(w);
             Single::Cost(0)
         }
@@ -131,11 +125,10 @@ fn finalize_step(w: &mut [u32], l: Sizes) -> Single
 }
 
 // One step. A string sweep step costs 10, another 800; marking roots, the atomic step and the end 0.
-pub fn single_step(w: &mut [u32], b: &mut [u8], l: Sizes) -> Single
-    requires laid { Laid (lay_of l) }
-    requires l_in_bounds { (lay_of l).words ≤ length w.old }
-    requires l_in_bounds_2 { (lay_of l).bytes ≤ length b.old }
-    ensures { ((result, heap w.new b.new) ≡ single_step (lay_of l) (heap w.old b.old)) × Small result }
+pub fn single_step(w: &mut [u32], b: &mut [u8], l: Plan) -> Single
+    requires l_in_bounds { (lay_of l.sizes).words ≤ length w.old }
+    requires l_in_bounds_2 { (lay_of l.sizes).bytes ≤ length b.old }
+    ensures { ((result, heap w.new b.new) ≡ single_step (lay_of l.sizes) (heap w.old b.old)) × Small result }
 {
     let phase = base::get(w, layout::PHASE);
     match phase {

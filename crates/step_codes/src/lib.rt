@@ -5,6 +5,7 @@ ghost use Rattle.std.specs.Prelude.{◌≡◌, ◌≤◌, length};
 ghost use Rattle.step_codes.specs.Codes.{six, told};
 
 use accounts::Answer;
+use base::Refusal;
 use value::Value;
 
 // Six words of an answer.
@@ -19,39 +20,39 @@ fn put_six(out: &mut [u32], kind: u32, x: u32, y: u32, v: Value)
 }
 
 // An answer in words; the number of a refusal leaves them as they are.
-pub fn tell(out: &mut [u32], a: Answer) -> u32
+pub fn tell(out: &mut [u32], a: Result<Answer, Refusal>) -> u32
     requires { 6 ≤ length out.old }
     ensures { (result, out.new) ≡ told a out.old }
 {
     match a {
-        Answer::Stepped(c) => {
+        Ok(Answer::Stepped(c)) => {
             put_six(out, 0, (c % 4294967296) as u32, 0, Value::Nil);
             0
         }
-        Answer::Unfinished => {
+        Ok(Answer::Unfinished) => {
             put_six(out, 1, 0, 0, Value::Nil);
             0
         }
-        Answer::Ended => {
+        Ok(Answer::Ended) => {
             put_six(out, 2, 0, 0, Value::Nil);
             0
         }
-        Answer::Passed => {
+        Ok(Answer::Passed) => {
             put_six(out, 3, 0, 0, Value::Nil);
             0
         }
-        Answer::Handed(r, v) => {
+        Ok(Answer::Handed(r, v)) => {
             put_six(out, 4, r.0, r.1, v);
             0
         }
-        Answer::Busy => {
+        Ok(Answer::Busy) => {
             put_six(out, 5, 0, 0, Value::Nil);
             0
         }
-        Answer::Failed => {
+        Ok(Answer::Failed) => {
             put_six(out, 6, 0, 0, Value::Nil);
             0
         }
-        Answer::Refused(n) => n,
+        Err(n) => n.number(),
     }
 }

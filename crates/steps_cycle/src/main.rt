@@ -8,6 +8,7 @@
 ghost use Rattle.std.specs.Prelude.{◌≤◌, length};
 
 use accounts::Answer;
+use base::Refusal;
 use lines::number_at;
 use part_reads::{Listed, Main, Which};
 use print::{count, long, say};
@@ -27,13 +28,11 @@ pub enum By {
 
 // Words `from` to `end` - 1 are x; there are 9187.
 fn fill(w: &mut [u32; 9187], from: usize, end: usize, x: u32) {
-    let mut i = from;
-    while i < end {
+    for i in from..end {
         if 9187 <= i {
             return;
         }
         w[i] = x;
-        i += 1;
     }
 }
 
@@ -50,18 +49,13 @@ fn words(w: &mut [u32; 9187], s: &[u8], at: usize)
 
 // The rest of the line from `at` on stands in the bytes from `place` on; there are 1024.
 fn copy(b: &mut [u8; 1024], s: &[u8], at: usize, place: usize) {
-    let mut i = at;
     let mut p = place;
-    while i < s.len() {
+    for i in at..s.len() {
         let c = s[i];
-        if c == b'\n' {
-            return;
-        }
-        if 1024 <= p {
+        if c == b'\n' || 1024 <= p {
             return;
         }
         b[p] = c;
-        i += 1;
         p += 1;
     }
 }
@@ -96,9 +90,9 @@ fn start(w: &mut [u32; 9187], b: &mut [u8; 1024], s: &[u8]) {
 }
 
 // What a read gives as a number.
-fn number(r: Read) -> u64 {
+fn number(r: Result<Read, Refusal>) -> u64 {
     match r {
-        Read::Number(n) => n,
+        Ok(Read::Number(n)) => n,
         _ => 0,
     }
 }
@@ -146,7 +140,7 @@ fn listed(rt: &impl Print, w: &[u32], b: &[u8], which: Which, i: u32) -> io::Res
         say(rt, b", ")?;
     }
     match part_reads::read_list(w, b, which, Listed::At(i)) {
-        Read::Item(x) => print_answer::item(rt, x),
+        Ok(Read::Item(x)) => print_answer::item(rt, x),
         _ => say(rt, b"no item"),
     }
 }
@@ -154,10 +148,7 @@ fn listed(rt: &impl Print, w: &[u32], b: &[u8], which: Which, i: u32) -> io::Res
 // How many items a list has; no list has room for more than 12,289.
 fn items(w: &[u32], b: &[u8], which: Which) -> u32 {
     let n = number(part_reads::read_list(w, b, which, Listed::Length));
-    if n < 12289 {
-        return n as u32;
-    }
-    12289
+    n.min(12289) as u32
 }
 
 fn list(rt: &impl Print, w: &[u32], b: &[u8], name: &[u8], which: Which) -> io::Result<()> {
@@ -166,10 +157,8 @@ fn list(rt: &impl Print, w: &[u32], b: &[u8], name: &[u8], which: Which) -> io::
     if n == 0 {
         say(rt, b"none")?;
     }
-    let mut i: u32 = 0;
-    while i < n {
+    for i in 0..n {
         listed(rt, w, b, which, i)?;
-        i += 1;
     }
     Ok(())
 }
@@ -183,7 +172,7 @@ fn lists(rt: &impl Print, w: &[u32], b: &[u8]) -> io::Result<()> {
 }
 
 // What is written after each call.
-fn show(rt: &impl Print, w: &[u32], b: &[u8], a: Answer) -> io::Result<()> {
+fn show(rt: &impl Print, w: &[u32], b: &[u8], a: Result<Answer, Refusal>) -> io::Result<()> {
     print_answer::answer(rt, a)?;
     place(rt, w, b)?;
     counters(rt, w, b)?;
@@ -191,7 +180,12 @@ fn show(rt: &impl Print, w: &[u32], b: &[u8], a: Answer) -> io::Result<()> {
 }
 
 // A call, after its name.
-fn make(rt: &impl Print, w: &mut [u32], b: &mut [u8], by: By) -> io::Result<Answer> {
+fn make(
+    rt: &impl Print,
+    w: &mut [u32],
+    b: &mut [u8],
+    by: By,
+) -> io::Result<Result<Answer, Refusal>> {
     match by {
         By::Single => {
             say(rt, b"gc_singlestep: ")?;
@@ -229,25 +223,43 @@ fn meanwhile(rt: &impl Print, w: &mut [u32], b: &mut [u8]) -> io::Result<()> {
 }
 
 // The finalizer of r is over. That of userdata 6 fails.
-fn finish(rt: &impl Print, w: &mut [u32], b: &mut [u8], r: UdRef) -> io::Result<Answer> {
+fn finish(
+    rt: &impl Print,
+    w: &mut [u32],
+    b: &mut [u8],
+    r: UdRef,
+) -> io::Result<Result<Answer, Refusal>> {
     if r.0 == 6 {
         meanwhile(rt, w, b)?;
         say(rt, b"finish with failure: ")?;
-        return Ok(steps::finish(w, b, false));
+        Ok(steps::finish(w, b, false))
+    } else {
+        say(rt, b"finish with success: ")?;
+        Ok(steps::finish(w, b, true))
     }
-    say(rt, b"finish with success: ")?;
-    Ok(steps::finish(w, b, true))
 }
 
 // After a call that gave this answer: what it handed out is finished, else the cycle's call is made again.
-fn go_on(rt: &impl Print, w: &mut [u32], b: &mut [u8], by: By, last: Answer) -> io::Result<Answer> {
+fn go_on(
+    rt: &impl Print,
+    w: &mut [u32],
+    b: &mut [u8],
+    by: By,
+    last: Result<Answer, Refusal>,
+) -> io::Result<Result<Answer, Refusal>> {
     match last {
-        Answer::Handed(r, _) => finish(rt, w, b, r),
+        Ok(Answer::Handed(r, _)) => finish(rt, w, b, r),
         _ => make(rt, w, b, by),
     }
 }
 
-fn turn(rt: &impl Print, w: &mut [u32], b: &mut [u8], by: By, last: Answer) -> io::Result<Answer> {
+fn turn(
+    rt: &impl Print,
+    w: &mut [u32],
+    b: &mut [u8],
+    by: By,
+    last: Result<Answer, Refusal>,
+) -> io::Result<Result<Answer, Refusal>> {
     let a = go_on(rt, w, b, by, last)?;
     show(rt, w, b, a)?;
     Ok(a)
@@ -255,14 +267,12 @@ fn turn(rt: &impl Print, w: &mut [u32], b: &mut [u8], by: By, last: Answer) -> i
 
 // Calls until the phase is Pause, at most 100.
 fn cycle(rt: &impl Print, w: &mut [u32; 9187], b: &mut [u8; 1024], by: By) -> io::Result<()> {
-    let mut last = Answer::Busy;
-    let mut left: usize = 100;
-    while 0 < left {
+    let mut last = Ok(Answer::Busy);
+    for _ in 0..100 {
         last = turn(rt, w, b, by, last)?;
         if counter(w, b, Counter::Phase) == 0 {
             return Ok(());
         }
-        left -= 1;
     }
     Ok(())
 }
@@ -270,14 +280,11 @@ fn cycle(rt: &impl Print, w: &mut [u32; 9187], b: &mut [u8; 1024], by: By) -> io
 // The main stack is popped: its top is one less, and the value stays where it is.
 fn pop(rt: &impl Print, w: &mut [u32; 9187], b: &[u8]) -> io::Result<()> {
     let top = number(part_reads::read_main(w, b, Main::Top));
-    if top == 0 {
-        return Ok(());
-    }
-    if 256 < top {
+    if top == 0 || 256 < top {
         return Ok(());
     }
     match part_reads::read_main(w, b, Main::Stack((top - 1) as u32)) {
-        Read::Value(v) => print_answer::value(rt, v)?,
+        Ok(Read::Value(v)) => print_answer::value(rt, v)?,
         _ => say(rt, b"no value")?,
     }
     say(rt, b" is popped\n")?;

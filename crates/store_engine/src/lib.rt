@@ -2,10 +2,9 @@
 // numbers and slices only. The object is given by its handle. The answer is a code, 0 or the number of a refusal.
 #![tactic(auto)]
 
-ghost use Rattle.std.specs.Prelude.{◌≡◌};
+ghost use Rattle.std.specs.Prelude.{◌≡◌, Err};
 ghost use Rattle.base.specs.Heap.{heap};
 ghost use Rattle.value.specs.Values.{value_of};
-ghost use Rattle.given.specs.declared.Served.TheVariants.{Refused};
 ghost use Rattle.table_calls.specs.TableCalls.{table_set, table_set_meta};
 ghost use Rattle.node_calls.specs.NodeCalls.{table_set_node};
 ghost use Rattle.upvalue_calls.specs.UpvalueCalls.{upvalue_close, upvalue_set};
@@ -25,7 +24,7 @@ pub extern "C" fn sieddesan_table_set(
     low: u32,
     high: u32,
 ) -> u32
-    ensures { (result, heap w.new b.now) ≡ served (tagged Refused tag (table_set (table_ref index generation) i (value_of tag low high))) (heap w.old b.now) }
+    ensures { (result, heap w.new b.now) ≡ served (tagged Err tag (table_set (table_ref index generation) i (value_of tag low high))) (heap w.old b.now) }
 {
     if 8 < tag {
         return told::no_number(w, b);
@@ -55,7 +54,7 @@ pub extern "C" fn sieddesan_table_set_node(
     low: u32,
     high: u32,
 ) -> u32
-    ensures { (result, heap w.new b.now) ≡ served (tagged Refused ktag (tagged Refused tag (table_set_node (table_ref index generation) j (value_of ktag klow khigh) (value_of tag low high)))) (heap w.old b.now) }
+    ensures { (result, heap w.new b.now) ≡ served (tagged Err ktag (tagged Err tag (table_set_node (table_ref index generation) j (value_of ktag klow khigh) (value_of tag low high)))) (heap w.old b.now) }
 {
     if 8 < ktag {
         return told::no_number(w, b);
@@ -85,7 +84,7 @@ pub extern "C" fn sieddesan_table_set_meta(
     meta: u32,
     metagen: u32,
 ) -> u32
-    ensures { (result, heap w.new b.now) ≡ served (optional Refused some (table_set_meta (table_ref index generation) (table_of some meta metagen))) (heap w.old b.now) }
+    ensures { (result, heap w.new b.now) ≡ served (optional Err some (table_set_meta (table_ref index generation) (table_of some meta metagen))) (heap w.old b.now) }
 {
     if 1 < some {
         return told::no_number(w, b);
@@ -110,7 +109,7 @@ pub extern "C" fn sieddesan_upvalue_close(
     low: u32,
     high: u32,
 ) -> u32
-    ensures { (result, heap w.new b.now) ≡ served (tagged Refused tag (upvalue_close (upval_ref index generation) (value_of tag low high))) (heap w.old b.now) }
+    ensures { (result, heap w.new b.now) ≡ served (tagged Err tag (upvalue_close (upval_ref index generation) (value_of tag low high))) (heap w.old b.now) }
 {
     if 8 < tag {
         return told::no_number(w, b);
@@ -135,7 +134,7 @@ pub extern "C" fn sieddesan_upvalue_set(
     low: u32,
     high: u32,
 ) -> u32
-    ensures { (result, heap w.new b.now) ≡ served (tagged Refused tag (upvalue_set (upval_ref index generation) (value_of tag low high))) (heap w.old b.now) }
+    ensures { (result, heap w.new b.now) ≡ served (tagged Err tag (upvalue_set (upval_ref index generation) (value_of tag low high))) (heap w.old b.now) }
 {
     if 8 < tag {
         return told::no_number(w, b);
@@ -160,7 +159,7 @@ pub extern "C" fn sieddesan_ud_set_meta(
     meta: u32,
     metagen: u32,
 ) -> u32
-    ensures { (result, heap w.new b.now) ≡ served (optional Refused some (ud_set_meta (ud_ref index generation) (table_of some meta metagen))) (heap w.old b.now) }
+    ensures { (result, heap w.new b.now) ≡ served (optional Err some (ud_set_meta (ud_ref index generation) (table_of some meta metagen))) (heap w.old b.now) }
 {
     if 1 < some {
         return told::no_number(w, b);
@@ -185,7 +184,7 @@ pub extern "C" fn sieddesan_ud_set_env(
     env: u32,
     envgen: u32,
 ) -> u32
-    ensures { (result, heap w.new b.now) ≡ served (optional Refused some (ud_set_env (ud_ref index generation) (table_of some env envgen))) (heap w.old b.now) }
+    ensures { (result, heap w.new b.now) ≡ served (optional Err some (ud_set_env (ud_ref index generation) (table_of some env envgen))) (heap w.old b.now) }
 {
     if 1 < some {
         return told::no_number(w, b);
@@ -209,7 +208,7 @@ pub extern "C" fn sieddesan_set_type_meta(
     meta: u32,
     metagen: u32,
 ) -> u32
-    ensures { (result, heap w.new b.now) ≡ served (optional Refused some (set_type_meta k (table_of some meta metagen))) (heap w.old b.now) }
+    ensures { (result, heap w.new b.now) ≡ served (optional Err some (set_type_meta k (table_of some meta metagen))) (heap w.old b.now) }
 {
     if 1 < some {
         return told::no_number(w, b);

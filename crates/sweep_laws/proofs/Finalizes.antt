@@ -3,7 +3,7 @@
 --     item_words                     what it writes
 --     past_step                      so what the sweep freed stays
 --     past_less                      it makes the queue shorter, or ends the cycle
-use Rattle.std.specs.Prelude.{◌≡◌, refl, Bool, true, false, cond, ◌⊎◌, ◌≢◌, List, [], ◌∷◌}
+use Rattle.std.specs.Prelude.{◌≡◌, refl, Bool, true, false, cond, ◌⊎◌, ◌≢◌, List, [], ◌∷◌, Some, None, Option}
 use Rattle.std.proofs.Common.{sym, ◌∙◌, ⊎_elim, arith}
 use Rattle.std.proofs.Math.Path.{subst, ap}
 use Rattle.std.proofs.Math.Logic.{inl, inr}
@@ -13,14 +13,13 @@ use Rattle.std.proofs.Math.ListN.{length}
 use Rattle.base.specs.Ways.{eq_no}
 use Rattle.base.specs.Words.{at}
 use Rattle.base.specs.Heap.{Heap, heap}
+use Rattle.lists.specs.declared.Item.{Item}
 use Rattle.arena_laws.specs.Words.{puts_length, puts_far, puts_at}
 use Rattle.value.specs.Values.{is_nil}
 use Rattle.layout.specs.declared.List.{List as Queue}
 use Rattle.layout.specs.declared.Lay.{Lay}
 use Rattle.layout.specs.Places.{PHASE, WHITE, TOTAL, ESTIMATE, THRESHOLD, DEBT}
 use Rattle.lists.specs.declared.Item.TheVariants.{Table, Function, Userdata, Thread, Main, Unknown}
-use Rattle.lists.specs.declared.Popped.{Popped}
-use Rattle.lists.specs.declared.Popped.TheVariants.{Nothing, Got}
 use Rattle.lists.specs.Lists.{damage, length_of, pop}
 use Rattle.lists.proofs.Laws.{pop_none, pop_some, pop_length, pop_long, pop_kept}
 use Rattle.laid.specs.Laid.{Laid, queue_room_lem}
@@ -93,31 +92,31 @@ end_wrote w h k =
     }
 
 -- An item's turn.
-pub item_words : {E : Type 0} (l : Lay) (w : List ℕ) → 91 ≤ length w → (y : Popped) → (y ≡ Nothing → E) → Wrote E w (finalized l (y, w)).1
+pub item_words : {E : Type 0} (l : Lay) (w : List ℕ) → 91 ≤ length w → (y : Option Item) → (y ≡ None → E) → Wrote E w (finalized l (y, w)).1
 unfolding finalize_item finalize
-item_words l w h Nothing k = end_wrote w h (k refl)
-item_words l w h (Got (Table r)) k = wrote_none
-item_words l w h (Got (Function r)) k = wrote_none
-item_words l w h (Got (Thread r)) k = wrote_none
-item_words l w h (Got Main) k = wrote_none
-item_words l w h (Got Unknown) k = wrote_none
-item_words {E} l w h (Got (Userdata r)) k = go (is_nil (method_of l r w))
+item_words l w h None k = end_wrote w h (k refl)
+item_words l w h (Some (Table r)) k = wrote_none
+item_words l w h (Some (Function r)) k = wrote_none
+item_words l w h (Some (Thread r)) k = wrote_none
+item_words l w h (Some Main) k = wrote_none
+item_words l w h (Some Unknown) k = wrote_none
+item_words {E} l w h (Some (Userdata r)) k = go (is_nil (method_of l r w))
   where
     go : (d : Bool) → Wrote E w (cond {A = Single × List ℕ} d (Cost 100, lower_estimate w) (Out r (method_of l r w), handed_out w)).1
     go true = lower_wrote w
     go false = handed_wrote w
 
 -- Nothing is popped from an empty list alone.
-abbrev gotten : Popped → ℕ
-gotten Nothing = 0
-gotten (Got x) = 1
+abbrev gotten : Option Item → ℕ
+gotten None = 0
+gotten (Some x) = 1
 
-pub pop_empty : (q : Queue) (w : List ℕ) → (pop q w).0 ≡ Nothing → length_of q w ≡ 0
+pub pop_empty : (q : Queue) (w : List ℕ) → (pop q w).0 ≡ None → length_of q w ≡ 0
 pop_empty q w e = go (ℕ_discrete (length_of q w) 0)
   where
     go : Dec (length_of q w ≡ 0) → length_of q w ≡ 0
     go (yes z) = z
-    go (no d) = absurd (let t : ◌≡◌ {A = ℕ} 1 0 = sym (ap (λ (p : Popped × List ℕ). gotten p.0) (pop_some q w d)) ∙ ap gotten e in omega (arith, t))
+    go (no d) = absurd (let t : ◌≡◌ {A = ℕ} 1 0 = sym (ap (λ (p : Option Item × List ℕ). gotten p.0) (pop_some q w d)) ∙ ap gotten e in omega (arith, t))
 
 -- At Finalize a single step is that.
 pub finalize_step_lem : (l : Lay) (h : Heap) → at h.words PHASE ≡ 4 → single_step l h ≡ in_bytes (finalize_step l h.words) h.bytes
@@ -159,7 +158,7 @@ module _ (l : Lay) (ok : Laid l) (a : Apart l) (r : Rows l) (am : Ample l) (y : 
       h_long : l.words ≤ length h.words
       h_long = past_long s
 
-      p : Popped × List ℕ
+      p : Option Item × List ℕ
       p = pop l.queue h.words
 
       u : List ℕ
@@ -199,7 +198,7 @@ module _ (l : Lay) (ok : Laid l) (a : Apart l) (r : Rows l) (am : Ample l) (y : 
 
       ended : length_of l.queue h.words ≡ 0 → at u PHASE ≡ 0
       ended z =
-          ap (λ (x : Popped × List ℕ). at (finalized l x).1 PHASE) (pop_none l.queue h.words z)
+          ap (λ (x : Option Item × List ℕ). at (finalized l x).1 PHASE) (pop_none l.queue h.words z)
           ∙ end_phase h.words (omega (arith, h_long, o.words, o.header, a))
 
       go : Dec (length_of l.queue h.words ≡ 0) → (at u PHASE ≡ 0) ⊎ ((at u PHASE ≡ 4) × (length_of l.queue u + 1 ≡ length_of l.queue h.words))

@@ -6,12 +6,11 @@ ghost use Rattle.std.specs.Prelude.{◌≡◌, ℕ, ◌+◌, ◌*◌, ◌^◌, �
 ghost use Rattle.layout.specs.Layout.{lay_of};
 ghost use Rattle.base.specs.Heap.{heap};
 ghost use Rattle.arena.specs.Slots.{Room, Wide};
-ghost use Rattle.laid.specs.Laid.{Laid};
 ghost use Rattle.sweep_step.specs.Cursor.{start, advanced, next_arena, cursor_at, put_cursor};
 ghost use Rattle.sweep_step.specs.Sweeping.{arena_at, size_at, taken, sweep_arena, strings_moved, sweep_strings, others_moved, sweep_others};
 
 use arena::{Arena, Swept};
-use layout::Sizes;
+use layout::Plan;
 
 // Where a sweep goes on: the arena, of tables 0, closures 1, upvalues 2, userdata 3, threads 4, and the slot.
 #[derive(Clone, Copy)]
@@ -72,9 +71,8 @@ pub fn write_cursor(w: &mut [u32], c: SweepCursor)
 }
 
 // A stored arena index past 4 is threads.
-fn arena_at(l: Sizes, k: u32) -> Arena
-    requires { Laid (lay_of l) }
-    ensures { result ≡ arena_at (lay_of l) k }
+fn arena_at(l: Plan, k: u32) -> Arena
+    ensures { result ≡ arena_at (lay_of l.sizes) k }
 {
     match k {
         0 => layout::tables_of(l),
@@ -132,17 +130,16 @@ fn move_strings(w: &mut [u32], c: SweepCursor, s: Swept)
     if s.done {
         write_cursor(w, SweepCursor::start());
         base::put(w, layout::PHASE, 3);
-        return;
+    } else {
+        write_cursor(w, c.advance(s.next as u32));
     }
-    write_cursor(w, c.advance(s.next as u32));
 }
 
 // A batch of strings. It costs 10.
-pub fn sweep_strings_step(w: &mut [u32], b: &mut [u8], l: Sizes)
-    requires laid { Laid (lay_of l) }
-    requires l_in_bounds { (lay_of l).words ≤ length w.old }
-    requires l_in_bounds_2 { (lay_of l).bytes ≤ length b.old }
-    ensures { heap w.new b.new ≡ sweep_strings (lay_of l) (heap w.old b.old) }
+pub fn sweep_strings_step(w: &mut [u32], b: &mut [u8], l: Plan)
+    requires l_in_bounds { (lay_of l.sizes).words ≤ length w.old }
+    requires l_in_bounds_2 { (lay_of l.sizes).bytes ≤ length b.old }
+    ensures { heap w.new b.new ≡ sweep_strings (lay_of l.sizes) (heap w.old b.old) }
 {
     let c = read_cursor(w);
     let s = sweep_arena(w, b, layout::strings_of(l), 48, c.slot_position);
@@ -157,20 +154,19 @@ fn move_others(w: &mut [u32], c: SweepCursor, s: Swept)
     if s.done {
         if c.arena_index < 4 {
             write_cursor(w, c.next_arena());
-            return;
+        } else {
+            base::put(w, layout::PHASE, 4);
         }
-        base::put(w, layout::PHASE, 4);
-        return;
+    } else {
+        write_cursor(w, c.advance(s.next as u32));
     }
-    write_cursor(w, c.advance(s.next as u32));
 }
 
 // A batch of the others. It costs 800.
-pub fn sweep_other_step(w: &mut [u32], b: &mut [u8], l: Sizes)
-    requires laid { Laid (lay_of l) }
-    requires l_in_bounds { (lay_of l).words ≤ length w.old }
-    requires l_in_bounds_2 { (lay_of l).bytes ≤ length b.old }
-    ensures { heap w.new b.new ≡ sweep_others (lay_of l) (heap w.old b.old) }
+pub fn sweep_other_step(w: &mut [u32], b: &mut [u8], l: Plan)
+    requires l_in_bounds { (lay_of l.sizes).words ≤ length w.old }
+    requires l_in_bounds_2 { (lay_of l.sizes).bytes ≤ length b.old }
+    ensures { heap w.new b.new ≡ sweep_others (lay_of l.sizes) (heap w.old b.old) }
 {
     let c = read_cursor(w);
     let k = c.arena_index;

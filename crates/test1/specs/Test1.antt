@@ -1,14 +1,14 @@
 -- Document 01, 'Refusal numbers', rows 1 and 8: what every call asks first, of the header and the two lengths alone.
 -- Assumes nothing.
-use Rattle.std.specs.Prelude.{Bool, cond, ◌&&◌, List, [], ◌∷◌, ℕ, suc, ◌+◌, leb, eqb, length}
+use Rattle.std.specs.Prelude.{Bool, cond, ◌&&◌, List, [], ◌∷◌, ℕ, suc, ◌+◌, leb, eqb, length, Ok, Err, Result}
 use Rattle.base.specs.Words.{at}
+use Rattle.base.specs.declared.Refusal.TheVariants.{Unfit, Damaged}
+use Rattle.base.specs.declared.Refusal.{Refusal}
 use Rattle.layout.specs.Table.{Row, ◌⊑◌, all}
 use Rattle.layout.specs.Places.{SIZES, PROTOTYPES, TOP, OPENS, CI, DAMAGE, PHASE, WHITE, TOTAL, GRAY, GRAYAGAIN, WEAK, QUEUE, STRINGS, TABLES, FUNCTIONS, UPVALUES, USERDATA, THREADS, HEADER}
 use Rattle.layout.specs.Sizes.{sizes_fit}
 use Rattle.layout.specs.Layout.{lay_of, gray_room, grayagain_room, weak_room, queue_room}
 use Rattle.layout.specs.declared.Sizes.{Sizes}
-use Rattle.layout.specs.declared.Opened.{Opened}
-use Rattle.layout.specs.declared.Opened.TheVariants.{Fits, Refused}
 
 -- the sizes as the header has them
 unfoldable pub sizes_at : List ℕ → Sizes
@@ -81,5 +81,5 @@ accepted w m =
     && leb (lay_of (sizes_at w)).bytes m
 
 -- Every call begins so: 1; then 8, if the damage mark was set before the call; else it has the sizes of the layout.
-unfoldable pub opened : List ℕ → ℕ → Opened
-opened w m = cond (accepted w m) (cond (eqb (at w DAMAGE) 0) (Fits (sizes_at w)) (Refused 8)) (Refused 1)
+unfoldable pub opened : List ℕ → ℕ → Result Sizes Refusal
+opened w m = cond (accepted w m) (cond (eqb (at w DAMAGE) 0) (Ok (sizes_at w)) (Err Damaged)) (Err Unfit)

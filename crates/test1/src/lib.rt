@@ -3,22 +3,13 @@
 #![tactic(auto)]
 
 ghost use Rattle.std.specs.Prelude.{◌≡◌, ℕ, ◌+◌, ◌≤◌, ◌<◌, length};
-ghost use Rattle.base.specs.Words.{at};
 ghost use Rattle.layout.specs.Table.{all};
-ghost use Rattle.layout.specs.Sizes.{SizesOk};
+ghost use Rattle.layout.specs.Plans.{sizes_given};
 ghost use Rattle.layout.specs.Fits.{Gives};
 ghost use Rattle.test1.specs.Test1.{sizes_at, arena_rows, arenas_fit, list_rows, main_rows, state_rows, counts_fit, opened};
 
-use base::wide;
-use layout::{Opened, Sizes};
-
-// The word at p as a number.
-fn number(w: &[u32], p: usize) -> usize
-    requires { p < length w.now }
-    ensures { result ≡ at w.now p }
-{
-    wide(w[p])
-}
+use base::{Refusal, wide};
+use layout::{Plan, Sizes};
 
 // The ten sizes stand first.
 fn sizes_at(w: &[u32]) -> Sizes
@@ -26,16 +17,16 @@ fn sizes_at(w: &[u32]) -> Sizes
     ensures { result ≡ sizes_at w.now }
 {
     Sizes {
-        strings: number(w, 0),
-        tables: number(w, 1),
-        functions: number(w, 2),
-        upvalues: number(w, 3),
-        userdata: number(w, 4),
-        threads: number(w, 5),
-        protos: number(w, 6),
-        stack: number(w, 7),
-        opens: number(w, 8),
-        frames: number(w, 9),
+        strings: wide(w[0]),
+        tables: wide(w[1]),
+        functions: wide(w[2]),
+        upvalues: wide(w[3]),
+        userdata: wide(w[4]),
+        threads: wide(w[5]),
+        protos: wide(w[6]),
+        stack: wide(w[7]),
+        opens: wide(w[8]),
+        frames: wide(w[9]),
     }
 }
 
@@ -45,42 +36,41 @@ fn arena_fits(w: &[u32], top: usize, slots: usize) -> bool
     requires top_bound { top < 89 }
     ensures { result ≡ all (arena_rows w.now top slots) }
 {
-    (number(w, top + 1) <= slots) & (w[top + 2] <= w[top + 1])
+    (wide(w[top + 1]) <= slots) & (w[top + 2] <= w[top + 1])
 }
 
-fn arenas_fit(w: &[u32], s: Sizes) -> bool
+fn arenas_fit(w: &[u32], l: Plan) -> bool
     requires { 91 ≤ length w.now }
-    ensures { result ≡ arenas_fit w.now s }
+    ensures { result ≡ arenas_fit w.now l.sizes }
 {
-    arena_fits(w, layout::STRINGS, s.strings)
-        & arena_fits(w, layout::TABLES, s.tables)
-        & arena_fits(w, layout::FUNCTIONS, s.functions)
-        & arena_fits(w, layout::UPVALUES, s.upvalues)
-        & arena_fits(w, layout::USERDATA, s.userdata)
-        & arena_fits(w, layout::THREADS, s.threads)
+    arena_fits(w, layout::STRINGS, l.sizes.strings)
+        & arena_fits(w, layout::TABLES, l.sizes.tables)
+        & arena_fits(w, layout::FUNCTIONS, l.sizes.functions)
+        & arena_fits(w, layout::UPVALUES, l.sizes.upvalues)
+        & arena_fits(w, layout::USERDATA, l.sizes.userdata)
+        & arena_fits(w, layout::THREADS, l.sizes.threads)
 }
 
 // The four lists: each count is at most the room.
-fn lists_fit(w: &[u32], s: Sizes) -> bool
-    requires in_bounds { 91 ≤ length w.now }
-    requires sizes_ok { SizesOk s }
-    ensures { result ≡ all (list_rows w.now s) }
+fn lists_fit(w: &[u32], l: Plan) -> bool
+    requires { 91 ≤ length w.now }
+    ensures { result ≡ all (list_rows w.now l.sizes) }
 {
-    (number(w, layout::GRAY) <= s.tables + s.functions + s.threads + 1)
-        & (number(w, layout::GRAYAGAIN) <= s.tables + 2 * s.threads + 1)
-        & (number(w, layout::WEAK) <= 2 * s.tables)
-        & (number(w, layout::QUEUE) <= s.userdata)
+    (wide(w[layout::GRAY]) <= l.sizes.tables + l.sizes.functions + l.sizes.threads + 1)
+        & (wide(w[layout::GRAYAGAIN]) <= l.sizes.tables + 2 * l.sizes.threads + 1)
+        & (wide(w[layout::WEAK]) <= 2 * l.sizes.tables)
+        & (wide(w[layout::QUEUE]) <= l.sizes.userdata)
 }
 
 // Prototypes used; the main thread's top, open count, and ci, which is below the frames.
-fn main_fits(w: &[u32], s: Sizes) -> bool
+fn main_fits(w: &[u32], l: Plan) -> bool
     requires { 91 ≤ length w.now }
-    ensures { result ≡ all (main_rows w.now s) }
+    ensures { result ≡ all (main_rows w.now l.sizes) }
 {
-    (number(w, layout::PROTOTYPES) <= s.protos)
-        & (number(w, layout::TOP) <= s.stack)
-        & (number(w, layout::OPENS) <= s.opens)
-        & (number(w, layout::CI) < s.frames)
+    (wide(w[layout::PROTOTYPES]) <= l.sizes.protos)
+        & (wide(w[layout::TOP]) <= l.sizes.stack)
+        & (wide(w[layout::OPENS]) <= l.sizes.opens)
+        & (wide(w[layout::CI]) < l.sizes.frames)
 }
 
 // Five phases, two whites; tracked total at most 2^31 - 1.
@@ -94,37 +84,37 @@ fn state_fits(w: &[u32]) -> bool
         & (w[layout::TOTAL] <= 2147483647)
 }
 
-fn counts_fit(w: &[u32], s: Sizes) -> bool
-    requires in_bounds { 91 ≤ length w.now }
-    requires sizes_ok { SizesOk s }
-    ensures { result ≡ counts_fit w.now s }
+fn counts_fit(w: &[u32], l: Plan) -> bool
+    requires { 91 ≤ length w.now }
+    ensures { result ≡ counts_fit w.now l.sizes }
 {
-    arenas_fit(w, s) & lists_fit(w, s) & main_fits(w, s) & state_fits(w)
+    arenas_fit(w, l) & lists_fit(w, l) & main_fits(w, l) & state_fits(w)
 }
 
 // What every call begins with: test 1, then the damage mark, else the sizes of its layout. It reads the header alone and the
 // two lengths, so its cost does not grow with the slots.
-pub fn enter(w: &[u32], b: &[u8]) -> Opened
-    ensures { (result ≡ opened w.now (length b.now)) × Gives result (length w.now) (length b.now) }
+pub fn enter(w: &[u32], b: &[u8]) -> Result<Plan, Refusal>
+    ensures { (sizes_given result ≡ opened w.now (length b.now)) × Gives (sizes_given result) (length w.now) (length b.now) }
 {
     if w.len() < layout::HEADER {
-        return Opened::Refused(1);
+        return Err(Refusal::Unfit);
     }
     let s = sizes_at(w);
     if !layout::sizes_fit(s) {
-        return Opened::Refused(1);
+        return Err(Refusal::Unfit);
     }
-    if !counts_fit(w, s) {
-        return Opened::Refused(1);
+    let l = Plan { sizes: s };
+    if !counts_fit(w, l) {
+        return Err(Refusal::Unfit);
     }
-    if w.len() < layout::words_of(s) {
-        return Opened::Refused(1);
+    if w.len() < layout::words_of(l) {
+        return Err(Refusal::Unfit);
     }
-    if b.len() < layout::bytes_of(s) {
-        return Opened::Refused(1);
+    if b.len() < layout::bytes_of(l) {
+        return Err(Refusal::Unfit);
     }
     if base::get(w, layout::DAMAGE) != 0 {
-        return Opened::Refused(8);
+        return Err(Refusal::Damaged);
     }
-    Opened::Fits(s)
+    Ok(l)
 }

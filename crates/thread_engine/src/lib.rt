@@ -2,10 +2,9 @@
 // The answer is a code, 0 or the number of a refusal, and three words lent for a popped value.
 #![tactic(auto)]
 
-ghost use Rattle.std.specs.Prelude.{◌≡◌};
+ghost use Rattle.std.specs.Prelude.{◌≡◌, Err};
 ghost use Rattle.base.specs.Heap.{heap};
 ghost use Rattle.value.specs.Values.{value_of};
-ghost use Rattle.given.specs.declared.Served.TheVariants.{Refused};
 ghost use Rattle.thread_stack_calls.specs.ThreadStacks.{thread_push, thread_pop};
 ghost use Rattle.thread_set_calls.specs.ThreadSets.{thread_set, thread_set_top};
 ghost use Rattle.thread_open_calls.specs.ThreadOpens.{thread_open_push, thread_open_cut};
@@ -26,7 +25,7 @@ pub extern "C" fn sieddesan_thread_push(
     low: u32,
     high: u32,
 ) -> u32
-    ensures { (result, heap w.new b.now) ≡ served (tagged Refused tag (thread_push (thread_ref index generation) (value_of tag low high))) (heap w.old b.now) }
+    ensures { (result, heap w.new b.now) ≡ served (tagged Err tag (thread_push (thread_ref index generation) (value_of tag low high))) (heap w.old b.now) }
 {
     if 8 < tag {
         return told::no_number(w, b);
@@ -70,7 +69,7 @@ pub extern "C" fn sieddesan_thread_set(
     low: u32,
     high: u32,
 ) -> u32
-    ensures { (result, heap w.new b.now) ≡ served (tagged Refused tag (thread_set (thread_ref index generation) i (value_of tag low high))) (heap w.old b.now) }
+    ensures { (result, heap w.new b.now) ≡ served (tagged Err tag (thread_set (thread_ref index generation) i (value_of tag low high))) (heap w.old b.now) }
 {
     if 8 < tag {
         return told::no_number(w, b);
@@ -209,7 +208,7 @@ pub extern "C" fn sieddesan_thread_set_error(
     low: u32,
     high: u32,
 ) -> u32
-    ensures { (result, heap w.new b.now) ≡ served (tagged Refused tag (thread_set_error (thread_ref index generation) (value_of tag low high))) (heap w.old b.now) }
+    ensures { (result, heap w.new b.now) ≡ served (tagged Err tag (thread_set_error (thread_ref index generation) (value_of tag low high))) (heap w.old b.now) }
 {
     if 8 < tag {
         return told::no_number(w, b);
@@ -234,7 +233,7 @@ pub extern "C" fn sieddesan_thread_set_hook(
     low: u32,
     high: u32,
 ) -> u32
-    ensures { (result, heap w.new b.now) ≡ served (tagged Refused tag (thread_set_hook (thread_ref index generation) (value_of tag low high))) (heap w.old b.now) }
+    ensures { (result, heap w.new b.now) ≡ served (tagged Err tag (thread_set_hook (thread_ref index generation) (value_of tag low high))) (heap w.old b.now) }
 {
     if 8 < tag {
         return told::no_number(w, b);

@@ -6,39 +6,25 @@ ghost use Rattle.std.specs.Prelude.{◌≡◌};
 ghost use Rattle.base.specs.Heap.{heap};
 ghost use Rattle.thread_set_calls.specs.ThreadSets.{thread_set, thread_set_top};
 
-use given::Served;
-use layout::Opened;
-use owners::Body;
+use base::Refusal;
 use value::{ThreadRef, Value};
 
 // A value in place i, also at or above the top: 4 past the stack's size, 2 for a value that names nothing.
-pub fn thread_set(w: &mut [u32], b: &[u8], t: ThreadRef, i: u32, v: Value) -> Served
+pub fn thread_set(w: &mut [u32], b: &[u8], t: ThreadRef, i: u32, v: Value) -> Result<(), Refusal>
     ensures { (result, heap w.new b.now) ≡ thread_set t i v (heap w.old b.now) }
 {
-    match test1::enter(w, b) {
-        Opened::Fits(l) => match owners::thread_body(w, l, t) {
-            Body::At(p) => {
-                let s = owners::thread_stack(w, p);
-                stacks::set_value(w, l, s, i, v)
-            }
-            Body::Stale => Served::Refused(2),
-        },
-        Opened::Refused(n) => Served::Refused(n),
-    }
+    let l = test1::enter(w, b)?;
+    let p = owners::thread_body(w, l, t).ok_or(Refusal::Stale)?;
+    let s = owners::thread_stack(w, p);
+    stacks::set_value(w, l, s, i, v)
 }
 
 // The top is n, and places newly below it are nil; 4 past the stack's size.
-pub fn thread_set_top(w: &mut [u32], b: &[u8], t: ThreadRef, n: u32) -> Served
+pub fn thread_set_top(w: &mut [u32], b: &[u8], t: ThreadRef, n: u32) -> Result<(), Refusal>
     ensures { (result, heap w.new b.now) ≡ thread_set_top t n (heap w.old b.now) }
 {
-    match test1::enter(w, b) {
-        Opened::Fits(l) => match owners::thread_body(w, l, t) {
-            Body::At(p) => {
-                let s = owners::thread_stack(w, p);
-                stacks::set_height(w, s, n)
-            }
-            Body::Stale => Served::Refused(2),
-        },
-        Opened::Refused(k) => Served::Refused(k),
-    }
+    let l = test1::enter(w, b)?;
+    let p = owners::thread_body(w, l, t).ok_or(Refusal::Stale)?;
+    let s = owners::thread_stack(w, p);
+    stacks::set_height(w, s, n)
 }

@@ -4,41 +4,42 @@
 
 ghost use Rattle.std.specs.Prelude.{◌≡◌, ◌≤◌, length};
 ghost use Rattle.base.specs.Heap.{heap};
+ghost use Rattle.base.specs.Refusals.{number};
 ghost use Rattle.given.specs.Answers.{served_number};
 ghost use Rattle.told.specs.Numbers.{no_number, table_of};
 ghost use Rattle.told.specs.Answers.{two, got_told};
 
-use given::{Got, Served};
-use layout::Opened;
-use value::{TableOr, TableRef};
+use base::Refusal;
+use value::{TableRef, Value};
 
 // What a number that stands for nothing is answered.
 pub fn no_number(w: &[u32], b: &[u8]) -> u32
-    ensures { result ≡ no_number (heap w.now b.now) }
+    ensures { result ≡ number (no_number (heap w.now b.now)) }
 {
     match test1::enter(w, b) {
-        Opened::Fits(_) => 4,
-        Opened::Refused(n) => n,
+        Ok(_) => Refusal::OutOfRange.number(),
+        Err(n) => n.number(),
     }
 }
 
 // A table's handle that may be missing: 0 is none.
-pub fn table_of(some: u32, index: u32, generation: u32) -> TableOr
+pub fn table_of(some: u32, index: u32, generation: u32) -> Option<TableRef>
     ensures { result ≡ table_of some index generation }
 {
     if some == 0 {
-        return TableOr::Absent;
+        None
+    } else {
+        Some(TableRef(index, generation))
     }
-    TableOr::Present(TableRef(index, generation))
 }
 
 // The code of a call that has nothing to tell.
-pub fn code(a: Served) -> u32
+pub fn code(a: Result<(), Refusal>) -> u32
     ensures { result ≡ served_number a }
 {
     match a {
-        Served::Done => 0,
-        Served::Refused(n) => n,
+        Ok(()) => 0,
+        Err(n) => n.number(),
     }
 }
 
@@ -52,15 +53,15 @@ pub fn put_two(out: &mut [u32], x: u32, y: u32)
 }
 
 // The code of a call that hands a value back, with the value in words 0 to 2.
-pub fn tell_value(out: &mut [u32], a: Got) -> u32
+pub fn tell_value(out: &mut [u32], a: Result<Value, Refusal>) -> u32
     requires { 3 ≤ length out.old }
     ensures { (result, out.new) ≡ got_told a out.old }
 {
     match a {
-        Got::Value(v) => {
+        Ok(v) => {
             value::write_value(out, 0, v);
             0
         }
-        Got::Refused(n) => n,
+        Err(n) => n.number(),
     }
 }

@@ -1,73 +1,68 @@
 -- A handle that may be missing, in two words: index + 1, 0 for none, and the generation. Assumes nothing.
-use Rattle.std.specs.Prelude.{ℕ, ◌+◌, ◌-◌, ◌%◌, ◌^◌, List}
+use Rattle.std.specs.Prelude.{ℕ, ◌+◌, ◌-◌, ◌%◌, ◌^◌, List, Some, None, Option}
 use Rattle.base.specs.Ways.{if_eq}
 use Rattle.base.specs.Words.{at, put}
-use Rattle.value.specs.declared.Handle.{Handle}
-use Rattle.value.specs.declared.Handle.TheVariants.{Absent, Present}
-use Rattle.value.specs.declared.TableOr.{TableOr}
-use Rattle.value.specs.declared.TableOr.TheVariants.{Absent as NoTable, Present as SomeTable}
-use Rattle.value.specs.declared.StrOr.{StrOr}
-use Rattle.value.specs.declared.StrOr.TheVariants.{Absent as NoStr, Present as SomeStr}
-use Rattle.value.specs.declared.UdOr.{UdOr}
-use Rattle.value.specs.declared.UdOr.TheVariants.{Absent as NoUd, Present as SomeUd}
+use Rattle.value.specs.declared.UdRef.{UdRef}
+use Rattle.value.specs.declared.StrRef.{StrRef}
+use Rattle.value.specs.declared.TableRef.{TableRef}
 
-unfoldable pub handle_of : ℕ → ℕ → Handle
-handle_of first g = if_eq first 0 Absent (Present (first - 1) g)
+unfoldable pub handle_of : ℕ → ℕ → Option (ℕ × ℕ)
+handle_of first g = if_eq first 0 None (Some (first - 1, g))
 
-abbrev pub handle_at : List ℕ → ℕ → Handle
+abbrev pub handle_at : List ℕ → ℕ → Option (ℕ × ℕ)
 handle_at w p = handle_of (at w p) (at w (p + 1))
 
 -- index + 1 is taken modulo 2^32: an index of 2^32 - 1, which no slot has, is stored as none with its generation.
-abbrev pub first_of : Handle → ℕ
-first_of Absent = 0
-first_of (Present i g) = (i + 1) % 2 ^ 32
+abbrev pub first_of : Option (ℕ × ℕ) → ℕ
+first_of None = 0
+first_of (Some (i, g)) = (i + 1) % 2 ^ 32
 
-abbrev pub second_of : Handle → ℕ
-second_of Absent = 0
-second_of (Present i g) = g
+abbrev pub second_of : Option (ℕ × ℕ) → ℕ
+second_of None = 0
+second_of (Some (i, g)) = g
 
-unfoldable pub put_handle : ℕ → Handle → List ℕ → List ℕ
+unfoldable pub put_handle : ℕ → Option (ℕ × ℕ) → List ℕ → List ℕ
 put_handle p h w = put (p + 1) (second_of h) (put p (first_of h) w)
 
 -- a table's, a string's, and a userdata's
-abbrev pub table_or : Handle → TableOr
-table_or Absent = NoTable
-table_or (Present i g) = SomeTable (record { 0 = i; 1 = g })
+abbrev pub table_or : Option (ℕ × ℕ) → Option TableRef
+table_or None = None
+table_or (Some (i, g)) = Some (record { 0 = i; 1 = g })
 
-abbrev pub table_in : TableOr → Handle
-table_in NoTable = Absent
-table_in (SomeTable r) = Present r.0 r.1
+abbrev pub table_in : Option TableRef → Option (ℕ × ℕ)
+table_in None = None
+table_in (Some r) = Some (r.0, r.1)
 
-abbrev pub table_or_at : List ℕ → ℕ → TableOr
+abbrev pub table_or_at : List ℕ → ℕ → Option TableRef
 table_or_at w p = table_or (handle_at w p)
 
-abbrev pub put_table_or : ℕ → TableOr → List ℕ → List ℕ
+abbrev pub put_table_or : ℕ → Option TableRef → List ℕ → List ℕ
 put_table_or p t w = put_handle p (table_in t) w
 
-abbrev pub str_or : Handle → StrOr
-str_or Absent = NoStr
-str_or (Present i g) = SomeStr (record { 0 = i; 1 = g })
+abbrev pub str_or : Option (ℕ × ℕ) → Option StrRef
+str_or None = None
+str_or (Some (i, g)) = Some (record { 0 = i; 1 = g })
 
-abbrev pub str_in : StrOr → Handle
-str_in NoStr = Absent
-str_in (SomeStr r) = Present r.0 r.1
+abbrev pub str_in : Option StrRef → Option (ℕ × ℕ)
+str_in None = None
+str_in (Some r) = Some (r.0, r.1)
 
-abbrev pub str_or_at : List ℕ → ℕ → StrOr
+abbrev pub str_or_at : List ℕ → ℕ → Option StrRef
 str_or_at w p = str_or (handle_at w p)
 
-abbrev pub put_str_or : ℕ → StrOr → List ℕ → List ℕ
+abbrev pub put_str_or : ℕ → Option StrRef → List ℕ → List ℕ
 put_str_or p s w = put_handle p (str_in s) w
 
-abbrev pub ud_or : Handle → UdOr
-ud_or Absent = NoUd
-ud_or (Present i g) = SomeUd (record { 0 = i; 1 = g })
+abbrev pub ud_or : Option (ℕ × ℕ) → Option UdRef
+ud_or None = None
+ud_or (Some (i, g)) = Some (record { 0 = i; 1 = g })
 
-abbrev pub ud_in : UdOr → Handle
-ud_in NoUd = Absent
-ud_in (SomeUd r) = Present r.0 r.1
+abbrev pub ud_in : Option UdRef → Option (ℕ × ℕ)
+ud_in None = None
+ud_in (Some r) = Some (r.0, r.1)
 
-abbrev pub ud_or_at : List ℕ → ℕ → UdOr
+abbrev pub ud_or_at : List ℕ → ℕ → Option UdRef
 ud_or_at w p = ud_or (handle_at w p)
 
-abbrev pub put_ud_or : ℕ → UdOr → List ℕ → List ℕ
+abbrev pub put_ud_or : ℕ → Option UdRef → List ℕ → List ℕ
 put_ud_or p d w = put_handle p (ud_in d) w

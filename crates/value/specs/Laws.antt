@@ -4,7 +4,7 @@
 --     handle_back, handle_kept               the same for a handle that may be missing
 --     key_number, key_other                  equal keys are equal numbers, or one and the same value
 --     key_self, key_turned                   a key equals itself unless it is NaN; equality goes both ways
-use Rattle.std.specs.Prelude.{◌≡◌, ℕ, ◌+◌, ◌^◌, ◌<◌, ◌≤◌, Bool, true, false, ◌≢◌, ◌⊎◌, List, length, ◌==◌, slice_set, refl}
+use Rattle.std.specs.Prelude.{◌≡◌, ℕ, ◌+◌, ◌^◌, ◌<◌, ◌≤◌, Bool, true, false, ◌≢◌, ◌⊎◌, List, length, ◌==◌, slice_set, refl, Some, None, Option}
 use Rattle.std.proofs.Common.{sym, ap, subst, ◌∙◌, inl, inr, mod-eq_of_lt, arith, length-set, get_or-set_same, get_or-set_other, set-set, eq-eqb, ne_eqb, eqb-true, lt-ltb, le-ltb}
 use Rattle.std.proofs.lemmas.Bool.{false≢true}
 use Rattle.std.proofs.Math.Nat.{mod-add-div'}
@@ -17,8 +17,6 @@ use Rattle.value.specs.Values.{tag_of, low_of, high_of, bits_of, value_of, value
 use Rattle.value.specs.Handles.{handle_of, handle_at, first_of, second_of, put_handle}
 use Rattle.value.specs.declared.Value.{Value}
 use Rattle.value.specs.declared.Value.TheVariants.{Nil, Boolean, Light, Number, Str, Table, Function, Userdata, Thread}
-use Rattle.value.specs.declared.Handle.{Handle}
-use Rattle.value.specs.declared.Handle.TheVariants.{Absent, Present}
 
 -- place q lies outside the n places from p on
 abbrev pub Outside : ℕ → ℕ → ℕ → Type 0
@@ -135,16 +133,16 @@ value_apart p q v w o =
     side (inr h) r f g = inr (omega arith)
 
 -- A handle that may be missing: every index but 2^32 - 1 can be stored.
-abbrev pub Storable : Handle → Type 0
-Storable Absent = Unit {0}
-Storable (Present i g) = i + 1 < 2 ^ 32
+abbrev pub Storable : Option (ℕ × ℕ) → Type 0
+Storable None = Unit {0}
+Storable (Some (i, g)) = i + 1 < 2 ^ 32
 
-handle_parts : (h : Handle) → Storable h → handle_of (first_of h) (second_of h) ≡ h
+handle_parts : (h : Option (ℕ × ℕ)) → Storable h → handle_of (first_of h) (second_of h) ≡ h
 unfolding handle_of if_eq
-handle_parts Absent s = refl
-handle_parts (Present i g) s = rw (mod-eq_of_lt s, ne_eqb (i + 1) 0 (λ e. omega arith)) (ap (λ (k : ℕ). Present k g) (omega arith))
+handle_parts None s = refl
+handle_parts (Some (i, g)) s = rw (mod-eq_of_lt s, ne_eqb (i + 1) 0 (λ e. omega arith)) (ap (λ (k : ℕ). Some (k, g)) (omega arith))
 
-pub handle_back : (p : ℕ) (h : Handle) (w : List ℕ) → p + 1 < length w → Storable h → handle_at (put_handle p h w) p ≡ h
+pub handle_back : (p : ℕ) (h : Option (ℕ × ℕ)) (w : List ℕ) → p + 1 < length w → Storable h → handle_at (put_handle p h w) p ≡ h
 unfolding put_handle
 handle_back p h w f s =
     rw (
@@ -154,7 +152,7 @@ handle_back p h w f s =
     )
     (handle_parts h s)
 
-pub handle_kept : (p : ℕ) (h : Handle) (w : List ℕ) (q : ℕ) → Outside p 2 q → at (put_handle p h w) q ≡ at w q
+pub handle_kept : (p : ℕ) (h : Option (ℕ × ℕ)) (w : List ℕ) (q : ℕ) → Outside p 2 q → at (put_handle p h w) q ≡ at w q
 unfolding put_handle
 handle_kept p h w q o =
     get_or-set_other (put p (first_of h) w) (p + 1) q (second_of h) 0 (away p 2 q o (p + 1) (omega arith) (omega arith))

@@ -6,7 +6,7 @@ ghost use Rattle.std.specs.Prelude.{◌≡◌, ◌+◌, ◌<◌, length};
 ghost use Rattle.base.specs.Words.{put};
 ghost use Rattle.value.specs.Numbers.{is_nan, same_number};
 ghost use Rattle.value.specs.Values.{is_nil, tag_of, word_of, low_of, high_of, bits_of, value_of, value_at, put3, put_value, payload_equal, key_equal};
-ghost use Rattle.value.specs.Handles.{handle_of, handle_at, put_handle, table_in, table_or_at, put_table_or, str_in, str_or_at, put_str_or, ud_in, ud_or_at, put_ud_or};
+ghost use Rattle.value.specs.Handles.{handle_of, handle_at, put_handle, table_or_at, put_table_or, str_or_at, put_str_or, ud_or_at, put_ud_or};
 
 // A handle is an index and a generation. Each kind has its own, so that a string's never passes for a table's.
 #[derive(Clone, Copy)]
@@ -41,34 +41,6 @@ pub enum Value {
     Thread(ThreadRef),
 }
 
-// A handle of any kind that may be missing: index and generation.
-#[derive(Clone, Copy)]
-pub enum Handle {
-    Absent,
-    Present(u32, u32),
-}
-
-// A table's handle that may be missing.
-#[derive(Clone, Copy)]
-pub enum TableOr {
-    Absent,
-    Present(TableRef),
-}
-
-// A string's handle that may be missing.
-#[derive(Clone, Copy)]
-pub enum StrOr {
-    Absent,
-    Present(StrRef),
-}
-
-// A userdata's handle that may be missing.
-#[derive(Clone, Copy)]
-pub enum UdOr {
-    Absent,
-    Present(UdRef),
-}
-
 // The tag of a value: Lua's own number of its type.
 pub fn tag_of(v: Value) -> u32
     ensures { result ≡ tag_of v }
@@ -90,7 +62,7 @@ pub fn tag_of(v: Value) -> u32
 pub fn word_of(b: bool) -> u32
     ensures { result ≡ word_of b }
 {
-    if b { 1 } else { 0 }
+    u32::from(b)
 }
 
 pub fn low_of(v: Value) -> u32
@@ -168,16 +140,17 @@ pub fn write_value(w: &mut [u32], p: usize, v: Value)
 }
 
 // The handle that two words hold: index + 1, 0 for none, and the generation.
-fn handle_of(first: u32, generation: u32) -> Handle
+fn handle_of(first: u32, generation: u32) -> Option<(u32, u32)>
     ensures { result ≡ handle_of first generation }
 {
     if first == 0 {
-        return Handle::Absent;
+        None
+    } else {
+        Some((first - 1, generation))
     }
-    Handle::Present(first - 1, generation)
 }
 
-fn read_handle(w: &[u32], p: usize) -> Handle
+fn read_handle(w: &[u32], p: usize) -> Option<(u32, u32)>
     requires { p + 1 < length w.now }
     ensures { result ≡ handle_at w.now p }
 {
@@ -193,92 +166,56 @@ fn put_pair(w: &mut [u32], p: usize, a: u32, b: u32)
 }
 
 // The sum wraps: an index of 2^32 - 1, which no slot has, is stored as none with its generation.
-fn write_handle(w: &mut [u32], p: usize, h: Handle)
+fn write_handle(w: &mut [u32], p: usize, h: Option<(u32, u32)>)
     requires { p + 1 < length w.old }
     ensures { w.new ≡ put_handle p h w.old }
 {
     match h {
-        Handle::Absent => put_pair(w, p, 0, 0),
-        Handle::Present(i, g) => put_pair(w, p, std::num::wrapping_add_u32(i, 1), g),
+        None => put_pair(w, p, 0, 0),
+        Some((i, g)) => put_pair(w, p, i.wrapping_add(1), g),
     }
 }
 
-pub fn read_table_or(w: &[u32], p: usize) -> TableOr
+pub fn read_table_or(w: &[u32], p: usize) -> Option<TableRef>
     requires { p + 1 < length w.now }
     ensures { result ≡ table_or_at w.now p }
 {
-    match read_handle(w, p) {
-        Handle::Absent => TableOr::Absent,
-        Handle::Present(i, g) => TableOr::Present(TableRef(i, g)),
-    }
+    read_handle(w, p).map(|(i, g)| TableRef(i, g))
 }
 
-fn table_handle(t: TableOr) -> Handle
-    ensures { result ≡ table_in t }
-{
-    match t {
-        TableOr::Absent => Handle::Absent,
-        TableOr::Present(r) => Handle::Present(r.0, r.1),
-    }
-}
-
-pub fn write_table_or(w: &mut [u32], p: usize, t: TableOr)
+pub fn write_table_or(w: &mut [u32], p: usize, t: Option<TableRef>)
     requires { p + 1 < length w.old }
     ensures { w.new ≡ put_table_or p t w.old }
 {
-    write_handle(w, p, table_handle(t));
+    write_handle(w, p, t.map(|r| (r.0, r.1)));
 }
 
-pub fn read_str_or(w: &[u32], p: usize) -> StrOr
+pub fn read_str_or(w: &[u32], p: usize) -> Option<StrRef>
     requires { p + 1 < length w.now }
     ensures { result ≡ str_or_at w.now p }
 {
-    match read_handle(w, p) {
-        Handle::Absent => StrOr::Absent,
-        Handle::Present(i, g) => StrOr::Present(StrRef(i, g)),
-    }
+    read_handle(w, p).map(|(i, g)| StrRef(i, g))
 }
 
-fn str_handle(s: StrOr) -> Handle
-    ensures { result ≡ str_in s }
-{
-    match s {
-        StrOr::Absent => Handle::Absent,
-        StrOr::Present(r) => Handle::Present(r.0, r.1),
-    }
-}
-
-pub fn write_str_or(w: &mut [u32], p: usize, s: StrOr)
+pub fn write_str_or(w: &mut [u32], p: usize, s: Option<StrRef>)
     requires { p + 1 < length w.old }
     ensures { w.new ≡ put_str_or p s w.old }
 {
-    write_handle(w, p, str_handle(s));
+    write_handle(w, p, s.map(|r| (r.0, r.1)));
 }
 
-pub fn read_ud_or(w: &[u32], p: usize) -> UdOr
+pub fn read_ud_or(w: &[u32], p: usize) -> Option<UdRef>
     requires { p + 1 < length w.now }
     ensures { result ≡ ud_or_at w.now p }
 {
-    match read_handle(w, p) {
-        Handle::Absent => UdOr::Absent,
-        Handle::Present(i, g) => UdOr::Present(UdRef(i, g)),
-    }
+    read_handle(w, p).map(|(i, g)| UdRef(i, g))
 }
 
-fn ud_handle(d: UdOr) -> Handle
-    ensures { result ≡ ud_in d }
-{
-    match d {
-        UdOr::Absent => Handle::Absent,
-        UdOr::Present(r) => Handle::Present(r.0, r.1),
-    }
-}
-
-pub fn write_ud_or(w: &mut [u32], p: usize, d: UdOr)
+pub fn write_ud_or(w: &mut [u32], p: usize, d: Option<UdRef>)
     requires { p + 1 < length w.old }
     ensures { w.new ≡ put_ud_or p d w.old }
 {
-    write_handle(w, p, ud_handle(d));
+    write_handle(w, p, d.map(|r| (r.0, r.1)));
 }
 
 // Exponent all ones, and a mantissa that is not 0.
@@ -292,16 +229,7 @@ pub fn is_nan(bits: u64) -> bool
 pub fn same_number(a: u64, b: u64) -> bool
     ensures { result ≡ same_number a b }
 {
-    if is_nan(a) {
-        return false;
-    }
-    if a == b {
-        return true;
-    }
-    if 0 < a % 9223372036854775808 {
-        return false;
-    }
-    b % 9223372036854775808 == 0
+    !is_nan(a) && (a == b || a % 9223372036854775808 == 0 && b % 9223372036854775808 == 0)
 }
 
 fn bits_of(v: Value) -> u64
@@ -314,10 +242,7 @@ fn bits_of(v: Value) -> u64
 fn payload_equal(a: Value, b: Value) -> bool
     ensures { result ≡ payload_equal a b }
 {
-    if low_of(a) != low_of(b) {
-        return false;
-    }
-    high_of(a) == high_of(b)
+    low_of(a) == low_of(b) && high_of(a) == high_of(b)
 }
 
 pub fn is_nil(v: Value) -> bool
@@ -332,10 +257,10 @@ pub fn key_equal(a: Value, b: Value) -> bool
 {
     let t = tag_of(a);
     if t != tag_of(b) {
-        return false;
+        false
+    } else if t == 3 {
+        same_number(bits_of(a), bits_of(b))
+    } else {
+        payload_equal(a, b)
     }
-    if t == 3 {
-        return same_number(bits_of(a), bits_of(b));
-    }
-    payload_equal(a, b)
 }

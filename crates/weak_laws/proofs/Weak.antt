@@ -2,7 +2,7 @@
 -- specs/Weak.antt. Assumes nothing.
 --     flipped_cleared                   the second part of the atomic phase
 --     planned_cleared, collected_cleared     the atomic phase, after any number of steps, for the layout of any sizes; by single steps
-use Rattle.std.specs.Prelude.{◌≡◌, refl, Bool, ◌⊎◌, ◌↔◌, ◌≢◌, ltb, length}
+use Rattle.std.specs.Prelude.{◌≡◌, refl, Bool, ◌⊎◌, ◌↔◌, ◌≢◌, ltb, length, Some, None as Absent, Option}
 use Rattle.std.proofs.Math.Path.{sym, ap}
 use Rattle.std.proofs.Common.{subst, ◌∙◌, true≢false, inr, ⊎_elim, arith, length-set}
 use Rattle.std.proofs.Math.Bool.{true, false, cond}
@@ -16,10 +16,8 @@ use borrow.Author.Tests.{eqb-true, eq-eqb}
 use Rattle.base.specs.Ways.{if_eq, eq_yes, eq_no}
 use Rattle.base.specs.Words.{at, put, bounded}
 use Rattle.base.specs.Heap as base
-use Rattle.arena.specs.declared.Named.TheVariants.{At, Stale}
 use Rattle.arena.specs.Slots.{gen, used, named}
 use Rattle.value.specs.declared.TableRef.{TableRef}
-use Rattle.value.specs.declared.TableOr.{TableOr}
 use Rattle.value.specs.declared.Value.{Value}
 use Rattle.value.specs.declared.Value.TheVariants.{Nil, Boolean, Light, Number, Str, Table, Function, Userdata, Thread}
 use Rattle.value.specs.Values.{is_nil, value_at}
@@ -144,7 +142,7 @@ module _ (l : Lay) (ok : Laid l) (a : Apart l) (am : Ample l) (y : Bodies l) (r 
       (λ p. p) (Y_cases x)
 
   Y_names : (k i g : ℕ) → named (arena_of l k) i g Y ≡ named (arena_of l k) i g F
-  Y_names k i g = named_shade (arena_of l k) i g Y ∙ ⊎_elim both (λ p. ap (λ (c : ℕ). if_eq c 0 Stale (At i)) p) (Y_cases (ref k i g)) ∙ sym (named_shade (arena_of l k) i g F)
+  Y_names k i g = named_shade (arena_of l k) i g Y ∙ ⊎_elim both (λ p. ap (λ (c : ℕ). if_eq c 0 Absent (Some i)) p) (Y_cases (ref k i g)) ∙ sym (named_shade (arena_of l k) i g F)
     where
       none_zero : (n m : ℕ) → 1 ≤ m → n ≡ m → n ≢ 0
       none_zero n m f e z = omega (arith, f, e, z)
@@ -153,10 +151,10 @@ module _ (l : Lay) (ok : Laid l) (a : Apart l) (am : Ample l) (y : Bodies l) (r 
       zero_not n f z = omega (arith, f, z)
 
       both : Memᴰ (ref k i g) (held l K) × (1 ≤ colour_w l (ref k i g) F) × (colour_w l (ref k i g) Y ≡ other_white (at F WHITE))
-          → if_eq (colour_w l (ref k i g) Y) 0 Stale (At i) ≡ if_eq (colour_w l (ref k i g) F) 0 Stale (At i)
+          → if_eq (colour_w l (ref k i g) Y) 0 Absent (Some i) ≡ if_eq (colour_w l (ref k i g) F) 0 Absent (Some i)
       both p =
-          sym (eq_no (colour_w l (ref k i g) Y) 0 Stale (At i) (At i) (none_zero (colour_w l (ref k i g) Y) (other_white (at F WHITE)) (whites l ok a am y w b long f none u c e n).0 p.2) refl)
-          ∙ eq_no (colour_w l (ref k i g) F) 0 Stale (At i) (At i) (zero_not (colour_w l (ref k i g) F) p.1) refl
+          sym (eq_no (colour_w l (ref k i g) Y) 0 Absent (Some i) (Some i) (none_zero (colour_w l (ref k i g) Y) (other_white (at F WHITE)) (whites l ok a am y w b long f none u c e n).0 p.2) refl)
+          ∙ eq_no (colour_w l (ref k i g) F) 0 Absent (Some i) (Some i) (zero_not (colour_w l (ref k i g) F) p.1) refl
 
   Y_reads : Reads l F Y
   Y_reads = record {
@@ -189,13 +187,13 @@ module _ (l : Lay) (ok : Laid l) (a : Apart l) (am : Ample l) (y : Bodies l) (r 
       ∙ (z_reads.tables t h).word q g k
       ∙ ((marked_reads l ok a c.marked).tables t h).word q g k
 
-  mode_then : (m : TableOr) → weak_mode l m Y b ≡ weak_mode l m w b
+  mode_then : (m : Option TableRef) → weak_mode l m Y b ≡ weak_mode l m w b
   mode_then m = weak_mode_same Y_reads b m ∙ weak_mode_same (marked_reads l ok a D.marked) b m ∙ weak_mode_same z_reads b m ∙ weak_mode_same (marked_reads l ok a c.marked) b m
 
   mode_is : (t : ℕ) → t < l.tables.slots → mode_at l b old Y t ≡ weak_mode l (table_meta (body_at l.tables t) w) w b
   mode_is t h =
       let g : Agree w Y (body_at l.tables t) 580 = record { word = λ q x k. table_word t h q x k } in
-      ap (λ (m : TableOr). weak_mode l m Y b) (table_same g (body_at l.tables t) (omega arith) (omega arith)) ∙ mode_then (table_meta (body_at l.tables t) w)
+      ap (λ (m : Option TableRef). weak_mode l m Y b) (table_same g (body_at l.tables t) (omega arith) (omega arith)) ∙ mode_then (table_meta (body_at l.tables t) w)
 
   -- An object that is no string is in the old white exactly if it is not kept.
   old_out : (x : Ref) → x.kind ≢ 0 → colour_w l x Y ≡ old → Occupied l w x × (Kept l w b x → ⊥)

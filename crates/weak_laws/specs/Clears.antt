@@ -4,9 +4,9 @@
 --     mode_same                every table has its mode: the value of a `__mode` that is a string does not die
 --     array_cleared, nodes_cleared, table_cleared     one table
 --     all_cleared              all that are listed
-use Rattle.std.specs.Prelude.{◌≡◌, Bool, ◌⊎◌, ◌≢◌, ltb, length}
+use Rattle.std.specs.Prelude.{◌≡◌, Bool, ◌⊎◌, ◌≢◌, ltb, length, Some, None, Option}
 use Rattle.std.proofs.Math.Path.{refl, ap, subst}
-use Rattle.std.proofs.Common.{sym, ◌∙◌, true≢false, inl, inr, ⊎_elim, arith, get_or-set_same, get_or-set_other, eqb-true}
+use Rattle.std.proofs.Common.{sym, ◌∙◌, true≢false, inl, inr, ⊎_elim, arith, get_or-set_same, get_or-set_other}
 use Rattle.std.proofs.Math.Bool.{true, false, cond}
 use mathlib.Core.List.{List}
 use Prim.Native.Nat.{ℕ, zero, suc, min, ◌+◌, ◌*◌, ◌≤◌, ◌<◌}
@@ -16,27 +16,20 @@ use Rattle.std.proofs.Math.Seq.{set_out}
 use Rattle.base.specs.Ways.{if_le, if_eq, eq_yes, eq_no, le_yes}
 use Rattle.base.specs.Loop.{run}
 use Rattle.base.specs.Words.{at, put, bounded}
-use Rattle.arena.specs.declared.Named.{Named}
-use Rattle.arena.specs.declared.Named.TheVariants.{At, Stale}
 use Rattle.arena.specs.Slots.{named, row, Within}
 use Rattle.value.specs.declared.StrRef.{StrRef}
 use Rattle.value.specs.declared.TableRef.{TableRef}
 use Rattle.value.specs.declared.UdRef.{UdRef}
-use Rattle.value.specs.declared.StrOr.{StrOr}
-use Rattle.value.specs.declared.StrOr.TheVariants as stror
-use Rattle.value.specs.declared.TableOr.{TableOr}
-use Rattle.value.specs.declared.TableOr.TheVariants as tableor
 use Rattle.value.specs.declared.Value.{Value}
 use Rattle.value.specs.declared.Value.TheVariants.{Nil, Boolean, Light, Number, Str, Table, Function, Userdata, Thread}
-use Rattle.value.specs.Values.{is_nil, tag_of, value_at, put3, key_equal}
-use Rattle.value.specs.Laws.{Outside}
+use Rattle.value.specs.Values.{is_nil, value_at, put3, key_equal}
 use Rattle.layout.specs.declared.Lay.{Lay}
 use Rattle.lists.specs.declared.Item.{Item}
 use Rattle.lists.specs.declared.Item.TheVariants as item
 use Rattle.lists.specs.Lists.{kind_of, index_of, generation_of, item_in, length_of, place, item_at}
 use Rattle.lists.proofs.Laws.{item_three}
 use Rattle.record.specs.Fields.{body_at}
-use Rattle.record.specs.Strings.{string_length, text_of}
+use Rattle.record.specs.Strings.{text_of}
 use Rattle.record.specs.Tables.{table_meta, array_size, node_number, node_count, node_key, node_value}
 use Rattle.record.specs.Userdata.{ud_finalized}
 use Rattle.main_record.specs.Main.{mode_name}
@@ -44,7 +37,7 @@ use Rattle.laid.specs.Laid.{Laid, string_words}
 use Rattle.mark.specs.Ops.{Ref, ref, tab}
 use Rattle.mark.specs.Words.{arena_of, shade, colour_w}
 use Rattle.modes.specs.declared.Mode.{Mode}
-use Rattle.modes.specs.Modes.{look_from, field_at, field_named, field, strong, is_weak, mode_of_text, mode_of_slot, mode_of_string, mode_of_value, weak_mode}
+use Rattle.modes.specs.Modes.{look_from, field_at, field_named, field, is_weak, mode_of_text, mode_of_slot, mode_of_string, mode_of_value, weak_mode}
 use Rattle.clearing.specs.Strings.{on_table}
 use Rattle.clearing.specs.Entries.{is_finalized, is_dead, clear_value, clear_nth, clear_values, clear_array, key_dies, value_dies, node_dies, clear_node, clear_nth_node, clear_nodes, clear_entries, clear_table, clear_listed, clear_all}
 use Rattle.link_laws.specs.Agrees.{Agree, table_same, str_same}
@@ -52,7 +45,7 @@ use Rattle.link_laws.specs.Reads.{named_below}
 use Rattle.mark_laws.specs.Apart.{Apart, Order, order}
 use Rattle.mark_laws.specs.Colours.{shade_parts, named_shade}
 use Rattle.room_laws.proofs.Walks.{run_along}
-use Rattle.atomic_laws.specs.Bodies.{Bodies, body_end}
+use Rattle.atomic_laws.specs.Bodies.{Bodies}
 use Rattle.atomic_laws.proofs.Survives.{low_shade}
 use Rattle.sweep_laws.specs.Places.{Rows}
 use Rattle.weak_laws.specs.Cuts.{body, size, nodes, array_at, key_at, node_at, mode_at, ArrayDies, NodeDies, Same, Zero, Cut, cut_none, same_value, zero_value, cut_put, cut_zero}
@@ -117,7 +110,7 @@ module _ (l : Lay) (b : List ℕ) (old : ℕ) (H : List ℕ) (ok : Laid l) (a : 
         go (no h) (no d) = none (colour_w l x u) d ∙ sym (none (colour_w l x H) h)
 
     cut_named : (k i g : ℕ) → named (arena_of l k) i g u ≡ named (arena_of l k) i g H
-    cut_named k i g = named_shade (arena_of l k) i g u ∙ ap (λ (c : ℕ). if_eq c 0 Stale (At i)) (cut_shade (ref k i g)) ∙ sym (named_shade (arena_of l k) i g H)
+    cut_named k i g = named_shade (arena_of l k) i g u ∙ ap (λ (c : ℕ). if_eq c 0 None (Some i)) (cut_shade (ref k i g)) ∙ sym (named_shade (arena_of l k) i g H)
 
     -- What is dead stays so.
     finalized_same : (x : UdRef) → is_finalized l x u ≡ is_finalized l x H
@@ -143,11 +136,11 @@ module _ (l : Lay) (b : List ℕ) (old : ℕ) (H : List ℕ) (ok : Laid l) (a : 
     -- The mode that a value gives,
     value_mode : (v : Value) → mode_of_value l v u b ≡ mode_of_value l v H b
     unfolding mode_of_value mode_of_string
-    value_mode (Str x) = ap (λ (n : Named). mode_of_slot l u b n) (cut_named 0 x.0 x.1) ∙ slot (named l.strings x.0 x.1 H) (named_below l.strings x.0 x.1 H)
+    value_mode (Str x) = ap (λ (n : Option ℕ). mode_of_slot l u b n) (cut_named 0 x.0 x.1) ∙ slot (named l.strings x.0 x.1 H) (named_below l.strings x.0 x.1 H)
       where
-        slot : (n : Named) → Within n l.strings.slots → mode_of_slot l u b n ≡ mode_of_slot l H b n
-        slot Stale e = refl
-        slot (At i) h = ap (λ (k : ℕ). mode_of_text (text_of i (bounded k 64) b)) (s.other (body_at l.strings i) (inl (before (i * l.strings.stride) l.strings.stride (l.strings.slots * l.strings.stride) (row l.strings.stride h) (string_words l ok) r.strings)))
+        slot : (n : Option ℕ) → Within n l.strings.slots → mode_of_slot l u b n ≡ mode_of_slot l H b n
+        slot None e = refl
+        slot (Some i) h = ap (λ (k : ℕ). mode_of_text (text_of i (bounded k 64) b)) (s.other (body_at l.strings i) (inl (before (i * l.strings.stride) l.strings.stride (l.strings.slots * l.strings.stride) (row l.strings.stride h) (string_words l ok) r.strings)))
           where
             before : (x k z : ℕ) → x + k ≤ z → k ≡ 1 → l.strings.bodies + z ≤ l.tables.bodies → l.strings.bodies + x < l.tables.bodies
             before x k z f e g = omega (arith, f, e, g)
@@ -205,10 +198,10 @@ module _ (l : Lay) (b : List ℕ) (old : ℕ) (H : List ℕ) (ok : Laid l) (a : 
             (λ z. ap (λ (v : Value). mode_of_value l v u b) (zero_value l b old H u (node_at l b old H t j) z.0) ∙ dead e z.1 (node_value p j H) refl) (s.node t j h (omega (arith, f)))
 
     -- and so every table has its mode.
-    weak_same : (m : TableOr) → weak_mode l m u b ≡ weak_mode l m H b
+    weak_same : (m : Option TableRef) → weak_mode l m u b ≡ weak_mode l m H b
     unfolding weak_mode field field_named
-    weak_same tableor.Absent = refl
-    weak_same (tableor.Present z) = ap (λ (n : StrOr). mode_of_value l (field l z n u) u b) names ∙ by_name (mode_name H)
+    weak_same None = refl
+    weak_same (Some z) = ap (λ (n : Option StrRef). mode_of_value l (field l z n u) u b) names ∙ by_name (mode_name H)
       where
         header : Agree H u 0 52
         header = record { word = λ q g h. low q (omega (arith, h, o.header, a)) }
@@ -216,18 +209,18 @@ module _ (l : Lay) (b : List ℕ) (old : ℕ) (H : List ℕ) (ok : Laid l) (a : 
         names : mode_name u ≡ mode_name H
         names = str_same header 24 (omega arith) (omega arith)
 
-        by_name : (n : StrOr) → mode_of_value l (field l z n u) u b ≡ mode_of_value l (field l z n H) H b
-        by_name stror.Absent = value_mode Nil
-        by_name (stror.Present x) = ap (λ (n : Named). mode_of_value l (field_at l x u n) u b) (cut_named 1 z.0 z.1) ∙ slot (named l.tables z.0 z.1 H) (named_below l.tables z.0 z.1 H)
+        by_name : (n : Option StrRef) → mode_of_value l (field l z n u) u b ≡ mode_of_value l (field l z n H) H b
+        by_name None = value_mode Nil
+        by_name (Some x) = ap (λ (n : Option ℕ). mode_of_value l (field_at l x u n) u b) (cut_named 1 z.0 z.1) ∙ slot (named l.tables z.0 z.1 H) (named_below l.tables z.0 z.1 H)
           where
-            slot : (n : Named) → Within n l.tables.slots → mode_of_value l (field_at l x u n) u b ≡ mode_of_value l (field_at l x H n) H b
-            slot Stale h = value_mode Nil
-            slot (At i) h = ap (λ (n : ℕ). mode_of_value l (look_from n 0 (body l b old H i) x u) u b) (nodes_same i h) ∙ look_mode i h x (nodes l b old H i) 0 (omega arith)
+            slot : (n : Option ℕ) → Within n l.tables.slots → mode_of_value l (field_at l x u n) u b ≡ mode_of_value l (field_at l x H n) H b
+            slot None h = value_mode Nil
+            slot (Some i) h = ap (λ (n : ℕ). mode_of_value l (look_from n 0 (body l b old H i) x u) u b) (nodes_same i h) ∙ look_mode i h x (nodes l b old H i) 0 (omega arith)
 
     pub mode_same : (t : ℕ) → t < l.tables.slots → weak_mode l (table_meta (body l b old H t) u) u b ≡ mode_at l b old H t
     mode_same t h =
         let first : Agree H u (body l b old H t) 4 = record { word = λ q f g. s.head t h q f g } in
-        ap (λ (m : TableOr). weak_mode l m u b) (table_same first (body l b old H t) (omega arith) (omega arith))
+        ap (λ (m : Option TableRef). weak_mode l m u b) (table_same first (body l b old H t) (omega arith) (omega arith))
         ∙ weak_same (table_meta (body l b old H t) H)
 
   -- Clearing writes 0 only: what is 0 stays so.

@@ -8,6 +8,6 @@ pub returns-then-get64-get : goal.returns-then-get64-get
 unfolding within_limit
 returns-then-get64-get c = lt_yes _ _ _ _ _ (rw (c.get64.ensures, c.get.ensures) at c.if-get64-get.true) refl
 
-pub returns : goal.returns
+pub returns-else-get64-get : goal.returns-else-get64-get
 unfolding within_limit
-returns c = lt_no _ _ _ _ _ (rw (c.get64.ensures, c.get.ensures) at c.if-get64-get.false) refl
+returns-else-get64-get c = lt_no _ _ _ _ _ (rw (c.get64.ensures, c.get.ensures) at c.if-get64-get.false) refl

@@ -4,10 +4,10 @@ use Rattle.arena.specs.Slots.{no_room}
 use Rattle.base.specs.Ways.{lt_yes, lt_no}
 use Rattle.arena.proofs.no_room.Goals as goal
 
-pub returns-then-occupied_of-n : goal.returns-then-occupied_of-n
+pub returns-then-occupied_of-a : goal.returns-then-occupied_of-a
 unfolding no_room
-returns-then-occupied_of-n c = (lt_yes _ _ _ _ _ (omega arith) refl, tt)
+returns-then-occupied_of-a c = (lt_yes _ _ _ _ _ (omega arith) refl, tt)
 
-pub returns : goal.returns
+pub returns-else-occupied_of-a : goal.returns-else-occupied_of-a
 unfolding no_room
-returns c = (lt_no _ _ _ _ _ (omega arith) refl, tt)
+returns-else-occupied_of-a c = (lt_no _ _ _ _ _ (omega arith) refl, tt)

@@ -1,5 +1,5 @@
 -- `arena::sweep_partial` meets its contract: what is left of the loop gives the whole. Assumes nothing.
-use Rattle.std.proofs.Common.{◌≡◌, ℕ, ◌-◌, ◌≤◌, max, List, length}
+use Rattle.std.proofs.Common.{◌≡◌, ℕ, ◌≤◌, max, List, length}
 use Rattle.arena.specs.Slots.{to_see, visits}
 use Rattle.arena.specs.declared.Arena.{Arena}
 use Rattle.arena.specs.declared.Sweep.{Sweep}
@@ -13,10 +13,7 @@ pub record Inv (w₀ b₀ : List ℕ) (a : Arena) (dead white start end : ℕ) (
   pub wide : length b ≡ length b₀
   pub few : s.freed ≤ i
   pub under : s.freed ≤ a.slots
-  pub near : i ≤ max start a.slots
+  pub near : i ≤ max start end
 
 abbrev pub invariant-loop-i : goal.invariant-loop-i
 invariant-loop-i l = Inv l.initial.w l.initial.b l.a l.dead l.white l.start l.end l.initial.s l.w l.b l.s l.i
-
-abbrev pub decreases-loop-i : goal.decreases-loop-i
-decreases-loop-i l = l.end - l.i

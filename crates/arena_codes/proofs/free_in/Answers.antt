@@ -2,10 +2,10 @@
 use Rattle.arena_codes.specs.Codes.{free_in}
 use Rattle.arena_codes.proofs.free_in.Goals as goal
 
-pub returns-in-Done : goal.returns-in-Done
+pub returns-in-Ok : goal.returns-in-Ok
 unfolding free_in
-returns-in-Done c = rw (← c.free.ensures, c.in-Done.is)
+returns-in-Ok c = rw (← c.free.ensures, c.in-Ok.is)
 
-pub returns-in-Refused : goal.returns-in-Refused
+pub returns-in-Err : goal.returns-in-Err
 unfolding free_in
-returns-in-Refused c = rw (← c.free.ensures, c.in-Refused.is)
+returns-in-Err c = rw (← c.free.ensures, c.in-Err.is, c.number.ensures)

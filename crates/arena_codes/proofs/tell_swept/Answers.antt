@@ -2,4 +2,4 @@
 use Rattle.arena_codes.proofs.tell_swept.Goals as goal
 
 pub returns : goal.returns
-returns c = rw (← c.tell.ensures, ← c.flag.ensures) c.put.ensures
+returns c = rw (← c.tell.ensures, ← c.from.ensures) c.put.ensures

@@ -1,5 +1,4 @@
 -- `arena_engine::sieddesan_arena_take` meets its contract: each way by its test. Assumes nothing.
-use borrow.Author.Rules.{rules}
 use mathlib.Core.Path.{refl}
 use native.Mathlib.Omega.{arith}
 use Rattle.arena_engine.specs.Exports.{take_on, lies_room}
@@ -11,12 +10,12 @@ unfolding take_on
 returns-then-out-lt3 c = lt_yes _ _ _ _ _ (omega arith) refl
 
 pub take_in-requires : goal.take_in-requires
-take_in-requires c = record { room = lies_room _ _ _ (rw c.in-Fits.is at c.place.ensures.1); in_bounds = omega arith }
+take_in-requires c = record { room = lies_room _ _ _ (rw c.in-Ok.is at c.place.ensures.1); in_bounds = omega arith }
 
-pub returns-in-Fits : goal.returns-in-Fits
+pub returns-in-Ok : goal.returns-in-Ok
 unfolding take_on
-returns-in-Fits c = lt_no _ _ _ _ _ (omega arith) (rw (← c.place.ensures.0, c.in-Fits.is) c.take_in.ensures)
+returns-in-Ok c = lt_no _ _ _ _ _ (omega arith) (rw (← c.place.ensures.0, c.in-Ok.is) c.take_in.ensures)
 
-pub returns-in-Refused : goal.returns-in-Refused
+pub returns-in-Err : goal.returns-in-Err
 unfolding take_on
-returns-in-Refused c = lt_no _ _ _ _ _ (omega arith) (rw (← c.place.ensures.0, c.in-Refused.is))
+returns-in-Err c = lt_no _ _ _ _ _ (omega arith) (rw (← c.place.ensures.0, c.in-Err.is, c.number.ensures))

@@ -2,27 +2,18 @@
 use mathlib.Core.Path.{refl, ◌∙◌}
 use native.Mathlib.Omega.{arith}
 use Rattle.base.specs.Loop.{run_again, run_end}
-use Rattle.laid.specs.Laid.{grayagain_room_lem, sizes_laid}
+use Rattle.laid.specs.Laid.{grayagain_room_lem, laid_of}
 use Rattle.atomic.specs.Atomic.{again_all}
 use Rattle.atomic.proofs.again_all.Goals as goal
 
-pub grayagain_of-requires : goal.grayagain_of-requires
-grayagain_of-requires c = sizes_laid _ c.requires.laid
-
 pub length_of-n-requires : goal.length_of-n-requires
-length_of-n-requires c = rw c.grayagain_of.ensures (grayagain_room_lem _ _ c.requires.laid c.requires.l_in_bounds)
+length_of-n-requires c = rw c.grayagain_of.ensures (grayagain_room_lem _ _ (laid_of _ c.args.l.fits) c.requires.l_in_bounds)
 
 pub loop-k-init : goal.loop-k-init
 loop-k-init c = record { rest = refl; long = refl }
 
 pub again_listed-requires : goal.again_listed-requires
-again_listed-requires c = record { laid = c.requires.laid; l_in_bounds = omega (arith, c.requires.l_in_bounds, c.loop-k.invariant.long); l_in_bounds_2 = c.requires.l_in_bounds_2 }
-
-pub overflow_add-k : goal.overflow_add-k
-overflow_add-k c = omega arith
-
-pub loop-k-smaller : goal.loop-k-smaller
-loop-k-smaller c = omega (arith, c.loop-k-test.true)
+again_listed-requires c = record { l_in_bounds = omega (arith, c.requires.l_in_bounds, c.loop-k.invariant.long); l_in_bounds_2 = c.requires.l_in_bounds_2 }
 
 pub loop-k-preserved : goal.loop-k-preserved
 loop-k-preserved c = record { rest = run_again _ c.loop-k.invariant.rest c.loop-k-test.true c.again_listed.ensures; long = c.again_listed.auto.w ∙ c.loop-k.invariant.long }

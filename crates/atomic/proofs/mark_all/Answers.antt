@@ -1,14 +1,11 @@
 -- `atomic::mark_all` meets its contract: the callees' equations joined. Assumes nothing.
 use native.Mathlib.Omega.{arith}
-use Rattle.laid.specs.Laid.{grayagain_room_lem, sizes_laid}
+use Rattle.laid.specs.Laid.{grayagain_room_lem, laid_of}
 use Rattle.atomic.specs.Atomic.{marked}
 use Rattle.atomic.proofs.mark_all.Goals as goal
 
-pub grayagain_of-requires : goal.grayagain_of-requires
-grayagain_of-requires c = sizes_laid _ c.requires.laid
-
 pub clear_list-requires : goal.clear_list-requires
-clear_list-requires c = rw c.grayagain_of.ensures (grayagain_room_lem _ _ c.requires.laid (omega (arith, c.requires.l_in_bounds, c.mark_main.auto.w, c.again_all.auto.w)))
+clear_list-requires c = rw c.grayagain_of.ensures (grayagain_room_lem _ _ (laid_of _ c.args.l.fits) (omega (arith, c.requires.l_in_bounds, c.mark_main.auto.w, c.again_all.auto.w)))
 
 pub returns : goal.returns
 unfolding marked

@@ -1,43 +1,25 @@
 -- `audit::chains_hold` meets its contract: the callees' equations joined. Assumes nothing.
-use Rattle.laid.specs.Laid.{functions_room, strings_room, tables_room, threads_room, upvalues_room, userdata_room, sizes_laid}
+use Rattle.laid.specs.Laid.{functions_room, strings_room, tables_room, threads_room, upvalues_room, userdata_room, laid_of}
 use Rattle.audit.specs.Audit.{chains_hold}
 use Rattle.audit.proofs.chains_hold.Goals as goal
 
-pub strings_of-requires : goal.strings_of-requires
-strings_of-requires c = sizes_laid _ c.requires.laid
-
 pub chain_holds-requires : goal.chain_holds-requires
-chain_holds-requires c = rw c.strings_of.ensures (strings_room _ _ c.requires.laid c.requires.l_in_bounds)
-
-pub tables_of-requires : goal.tables_of-requires
-tables_of-requires c = sizes_laid _ c.requires.laid
+chain_holds-requires c = rw c.strings_of.ensures (strings_room _ _ (laid_of _ c.args.l.fits) c.requires.l_in_bounds)
 
 pub chain_holds-requires-2 : goal.chain_holds-requires-2
-chain_holds-requires-2 c = rw c.tables_of.ensures (tables_room _ _ c.requires.laid c.requires.l_in_bounds)
-
-pub functions_of-requires : goal.functions_of-requires
-functions_of-requires c = sizes_laid _ c.requires.laid
+chain_holds-requires-2 c = rw c.tables_of.ensures (tables_room _ _ (laid_of _ c.args.l.fits) c.requires.l_in_bounds)
 
 pub chain_holds-requires-3 : goal.chain_holds-requires-3
-chain_holds-requires-3 c = rw c.functions_of.ensures (functions_room _ _ c.requires.laid c.requires.l_in_bounds)
-
-pub upvalues_of-requires : goal.upvalues_of-requires
-upvalues_of-requires c = sizes_laid _ c.requires.laid
+chain_holds-requires-3 c = rw c.functions_of.ensures (functions_room _ _ (laid_of _ c.args.l.fits) c.requires.l_in_bounds)
 
 pub chain_holds-requires-4 : goal.chain_holds-requires-4
-chain_holds-requires-4 c = rw c.upvalues_of.ensures (upvalues_room _ _ c.requires.laid c.requires.l_in_bounds)
-
-pub userdata_of-requires : goal.userdata_of-requires
-userdata_of-requires c = sizes_laid _ c.requires.laid
+chain_holds-requires-4 c = rw c.upvalues_of.ensures (upvalues_room _ _ (laid_of _ c.args.l.fits) c.requires.l_in_bounds)
 
 pub chain_holds-requires-5 : goal.chain_holds-requires-5
-chain_holds-requires-5 c = rw c.userdata_of.ensures (userdata_room _ _ c.requires.laid c.requires.l_in_bounds)
-
-pub threads_of-requires : goal.threads_of-requires
-threads_of-requires c = sizes_laid _ c.requires.laid
+chain_holds-requires-5 c = rw c.userdata_of.ensures (userdata_room _ _ (laid_of _ c.args.l.fits) c.requires.l_in_bounds)
 
 pub chain_holds-requires-6 : goal.chain_holds-requires-6
-chain_holds-requires-6 c = rw c.threads_of.ensures (threads_room _ _ c.requires.laid c.requires.l_in_bounds)
+chain_holds-requires-6 c = rw c.threads_of.ensures (threads_room _ _ (laid_of _ c.args.l.fits) c.requires.l_in_bounds)
 
 pub returns : goal.returns
 unfolding chains_hold

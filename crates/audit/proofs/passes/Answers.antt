@@ -3,12 +3,12 @@ use mathlib.Core.Path.{◌∙◌, sym}
 use native.Mathlib.Omega.{arith}
 use borrow.Author.Tests.{eq-eqb, ne_eqb}
 use Rattle.base.specs.Words.{at}
-use Rattle.laid.specs.Laid.{header_room}
+use Rattle.laid.specs.Laid.{header_room, laid_of}
 use Rattle.audit.specs.Audit.{audit_of}
 use Rattle.audit.proofs.passes.Goals as goal
 
 pub bounds-w-53 : goal.bounds-w-53
-bounds-w-53 c = omega (arith, header_room _ c.args.w.now c.requires.laid c.requires.l_in_bounds)
+bounds-w-53 c = omega (arith, header_room _ c.args.w.now (laid_of _ c.args.l.fits) c.requires.l_in_bounds)
 
 pub returns-then-w-ne0 : goal.returns-then-w-ne0
 unfolding audit_of

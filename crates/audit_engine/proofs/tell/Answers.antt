@@ -2,14 +2,14 @@
 use Rattle.audit_engine.specs.Exports.{told}
 use Rattle.audit_engine.proofs.tell.Goals as goal
 
-pub returns-in-Yes : goal.returns-in-Yes
+pub returns-in-Ok-true : goal.returns-in-Ok-true
 unfolding told
-returns-in-Yes c = rw (c.in-Yes.is, ← c.put.ensures)
+returns-in-Ok-true c = rw (c.in-Ok-true.is, c.in-Ok-true.field-0-test, ← c.put.ensures)
 
-pub returns-in-No : goal.returns-in-No
+pub returns-in-Ok-false : goal.returns-in-Ok-false
 unfolding told
-returns-in-No c = rw (c.in-No.is, ← c.put-in-No.ensures)
+returns-in-Ok-false c = rw (c.in-Ok-false.is, c.in-Ok-false.field-0-test, ← c.put-in-Ok-false.ensures)
 
-pub returns-in-Refused : goal.returns-in-Refused
+pub returns-in-Err : goal.returns-in-Err
 unfolding told
-returns-in-Refused c = rw c.in-Refused.is
+returns-in-Err c = rw (c.in-Err.is, c.number.ensures)

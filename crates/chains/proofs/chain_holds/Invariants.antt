@@ -7,6 +7,3 @@ use Rattle.chains.proofs.chain_holds.Given as goal
 
 abbrev pub invariant-loop-k : goal.invariant-loop-k
 invariant-loop-k l = leads l.a l.w (l.n - l.k) l.x ≡ leads l.a l.w (free_count l.a l.w) (head l.a l.w)
-
-abbrev pub decreases-loop-k : goal.decreases-loop-k
-decreases-loop-k l = l.n - l.k

@@ -14,7 +14,7 @@ pub overflow_add-p : goal.overflow_add-p
 overflow_add-p c = omega arith
 
 pub clear_array-requires : goal.clear_array-requires
-clear_array-requires c = record { laid = c.requires.laid; l_in_bounds = c.requires.l_in_bounds; n_in_bounds = omega (arith, c.requires.p_in_bounds, c.array_size-n.ensures.1) }
+clear_array-requires c = record { l_in_bounds = c.requires.l_in_bounds; n_in_bounds = omega (arith, c.requires.p_in_bounds, c.array_size-n.ensures.1) }
 
 pub overflow_add-p-2 : goal.overflow_add-p-2
 overflow_add-p-2 c = omega arith
@@ -26,7 +26,7 @@ pub overflow_add-p-3 : goal.overflow_add-p-3
 overflow_add-p-3 c = omega (arith, c.array_size-n.ensures.1)
 
 pub clear_nodes-requires : goal.clear_nodes-requires
-clear_nodes-requires c = record { laid = c.requires.laid; l_in_bounds = omega (arith, c.requires.l_in_bounds, c.clear_array.auto.w); n_in_bounds = omega (arith, c.requires.p_in_bounds, c.array_size-n.ensures.1, c.node_count-k.ensures.1, c.clear_array.auto.w) }
+clear_nodes-requires c = record { l_in_bounds = omega (arith, c.requires.l_in_bounds, c.clear_array.auto.w); n_in_bounds = omega (arith, c.requires.p_in_bounds, c.array_size-n.ensures.1, c.node_count-k.ensures.1, c.clear_array.auto.w) }
 
 pub shape_of-w : goal.shape_of-w
 shape_of-w c = c.clear_nodes.auto.w ∙ c.clear_array.auto.w

@@ -1,16 +1,13 @@
 -- `clearing::clear_listed` meets its contract: the callees' equations joined. Assumes nothing.
 use mathlib.Core.Path.{refl}
-use Rattle.laid.specs.Laid.{weak_room_lem, sizes_laid}
+use Rattle.laid.specs.Laid.{weak_room_lem, laid_of}
 use Rattle.clearing.specs.Strings.{on_table}
 use Rattle.clearing.specs.Entries.{clear_listed}
 use Rattle.clearing.proofs.Laws.{passed}
 use Rattle.clearing.proofs.clear_listed.Goals as goal
 
-pub weak_of-requires : goal.weak_of-requires
-weak_of-requires c = sizes_laid _ c.requires.laid
-
 pub item_at-requires : goal.item_at-requires
-item_at-requires c = rw c.weak_of.ensures (weak_room_lem _ _ c.requires.laid c.requires.l_in_bounds)
+item_at-requires c = rw c.weak_of.ensures (weak_room_lem _ _ (laid_of _ c.args.l.fits) c.requires.l_in_bounds)
 
 pub clear_table-requires : goal.clear_table-requires
 clear_table-requires c = c.requires

@@ -2,16 +2,13 @@
 use mathlib.Core.Path.{refl, sym, ◌∙◌}
 use native.Mathlib.Omega.{arith}
 use Rattle.base.specs.Ways.{eq_yes, eq_no}
-use Rattle.laid.specs.Laid.{tables_room, table_words, sizes_laid}
+use Rattle.laid.specs.Laid.{tables_room, table_words, laid_of}
 use Rattle.mark.specs.Shades.{named_in}
 use Rattle.clearing.specs.Entries.{clear_table}
 use Rattle.clearing.proofs.clear_table.Goals as goal
 
-pub tables_of-tables-requires : goal.tables_of-tables-requires
-tables_of-tables-requires c = sizes_laid _ c.requires.laid
-
 pub shade-requires : goal.shade-requires
-shade-requires c = rw c.tables_of-tables.ensures (tables_room _ _ c.requires.laid c.requires.l_in_bounds)
+shade-requires c = rw c.tables_of-tables.ensures (tables_room _ _ (laid_of _ c.args.l.fits) c.requires.l_in_bounds)
 
 pub shape_of-w-then-shade-eq0 : goal.shape_of-w-then-shade-eq0
 shape_of-w-then-shade-eq0 c = refl
@@ -21,16 +18,16 @@ unfolding clear_table
 returns-then-shade-eq0 c = eq_yes _ _ _ _ _ (sym ((rw c.tables_of-tables.ensures at c.shade.ensures)) ∙ c.if-shade-eq0.true) refl
 
 pub body_of-p-requires : goal.body_of-p-requires
-body_of-p-requires c = record { room = rw c.tables_of-tables.ensures (tables_room _ _ c.requires.laid c.requires.l_in_bounds); i_lt_slots = rw c.tables_of-tables.ensures (omega (arith, c.wide.ensures.0, named_in _ _ _ _ ((rw c.tables_of-tables.ensures at c.shade.ensures)) c.if-shade-eq0.false)) }
+body_of-p-requires c = record { room = rw c.tables_of-tables.ensures (tables_room _ _ (laid_of _ c.args.l.fits) c.requires.l_in_bounds); i_lt_slots = rw c.tables_of-tables.ensures (omega (arith, c.wide.ensures.0, named_in _ _ _ _ ((rw c.tables_of-tables.ensures at c.shade.ensures)) c.if-shade-eq0.false)) }
 
 pub table_meta-mt-requires : goal.table_meta-mt-requires
-table_meta-mt-requires c = rw (table_words _ c.requires.laid) at (rw c.tables_of-tables.ensures at c.body_of-p.ensures).1
+table_meta-mt-requires c = rw (table_words _ (laid_of _ c.args.l.fits)) at (rw c.tables_of-tables.ensures at c.body_of-p.ensures).1
 
 pub check_weak_mode-m-requires : goal.check_weak_mode-m-requires
 check_weak_mode-m-requires c = c.requires
 
 pub clear_entries-requires : goal.clear_entries-requires
-clear_entries-requires c = record { laid = c.requires.laid; l_in_bounds = c.requires.l_in_bounds; p_in_bounds = rw (table_words _ c.requires.laid) at (rw c.tables_of-tables.ensures at c.body_of-p.ensures).1 }
+clear_entries-requires c = record { l_in_bounds = c.requires.l_in_bounds; p_in_bounds = rw (table_words _ (laid_of _ c.args.l.fits)) at (rw c.tables_of-tables.ensures at c.body_of-p.ensures).1 }
 
 pub shape_of-w-then-is_weak : goal.shape_of-w-then-is_weak
 shape_of-w-then-is_weak c = c.clear_entries.auto.w

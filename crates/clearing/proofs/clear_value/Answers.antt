@@ -7,7 +7,7 @@ pub read_value-v-requires : goal.read_value-v-requires
 read_value-v-requires c = c.requires.p_in_bounds
 
 pub is_dead-requires : goal.is_dead-requires
-is_dead-requires c = record { laid = c.requires.laid; l_in_bounds = c.requires.l_in_bounds }
+is_dead-requires c = record { l_in_bounds = c.requires.l_in_bounds }
 
 pub put3-requires : goal.put3-requires
 put3-requires c = c.requires.p_in_bounds

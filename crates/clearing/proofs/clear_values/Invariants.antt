@@ -1,12 +1,8 @@
 -- `clearing::clear_values` meets its contract: what is left of the loop gives the whole. Assumes nothing.
-use Prim.Native.Nat.{◌-◌}
 use Rattle.layout.specs.Layout.{lay_of}
 use Rattle.mark.proofs.Laws.{Going}
 use Rattle.clearing.specs.Entries.{clear_nth}
 use Rattle.clearing.proofs.clear_values.Given as goal
 
 abbrev pub invariant-loop-i : goal.invariant-loop-i
-invariant-loop-i l = Going (clear_nth (lay_of l.l) l.old l.p) l.n l.initial.w l.w l.i
-
-abbrev pub decreases-loop-i : goal.decreases-loop-i
-decreases-loop-i l = l.n - l.i
+invariant-loop-i l = Going (clear_nth (lay_of l.l.sizes) l.old l.p) l.n l.initial.w l.w l.i

@@ -2,21 +2,18 @@
 use mathlib.Core.Path.{ap, ◌∙◌}
 use native.Mathlib.Omega.{arith}
 use Rattle.lists.specs.Lists.{cleared}
-use Rattle.laid.specs.Laid.{weak_room_lem, sizes_laid}
+use Rattle.laid.specs.Laid.{weak_room_lem, laid_of}
 use Rattle.clearing.specs.Entries.{clear_all, clear_weak_tables}
 use Rattle.clearing.proofs.clear_weak_tables.Goals as goal
 
 pub keep_all-requires : goal.keep_all-requires
-keep_all-requires c = record { laid = c.requires.laid; l_in_bounds = c.requires.l_in_bounds }
+keep_all-requires c = record { l_in_bounds = c.requires.l_in_bounds }
 
 pub clear_all-requires : goal.clear_all-requires
-clear_all-requires c = record { laid = c.requires.laid; l_in_bounds = omega (arith, c.requires.l_in_bounds, c.keep_all.auto.w); l_in_bounds_2 = c.requires.l_in_bounds_2 }
-
-pub weak_of-requires : goal.weak_of-requires
-weak_of-requires c = sizes_laid _ c.requires.laid
+clear_all-requires c = record { l_in_bounds = omega (arith, c.requires.l_in_bounds, c.keep_all.auto.w); l_in_bounds_2 = c.requires.l_in_bounds_2 }
 
 pub clear_list-requires : goal.clear_list-requires
-clear_list-requires c = rw c.weak_of.ensures (weak_room_lem _ _ c.requires.laid (omega (arith, c.requires.l_in_bounds, c.keep_all.auto.w, c.clear_all.auto.w)))
+clear_list-requires c = rw c.weak_of.ensures (weak_room_lem _ _ (laid_of _ c.args.l.fits) (omega (arith, c.requires.l_in_bounds, c.keep_all.auto.w, c.clear_all.auto.w)))
 
 pub shape_of-w : goal.shape_of-w
 shape_of-w c = c.clear_list.auto.w ∙ c.clear_all.auto.w ∙ c.keep_all.auto.w

@@ -7,9 +7,9 @@ use Rattle.base.specs.Ways.{eq_yes, eq_no}
 use Rattle.value.specs.declared.Value.{Value}
 use Rattle.value.specs.declared.Value.TheVariants.{Nil, Boolean, Light, Number, Str, Table, Function, Userdata, Thread}
 use Rattle.layout.specs.declared.Lay.{Lay}
-use Rattle.laid.specs.Laid.{tables_room, functions_room, userdata_room, threads_room, sizes_laid}
+use Rattle.laid.specs.Laid.{tables_room, functions_room, userdata_room, threads_room, laid_of}
 use Rattle.clearing.specs.Entries.{is_dead}
-use Rattle.std.proofs.Common.{refl, ◌≡◌, ℕ}
+use Rattle.std.proofs.Common.{refl, ◌≡◌, ℕ, eq-eqb}
 use Rattle.value.specs.declared.FuncRef.{FuncRef}
 use Rattle.value.specs.declared.TableRef.{TableRef}
 use Rattle.value.specs.declared.ThreadRef.{ThreadRef}
@@ -29,37 +29,25 @@ plain-lives l old key (Function r) w k0 k1 k2 k3 = absurd (k1 r refl)
 plain-lives l old key (Userdata r) w k0 k1 k2 k3 = absurd (k2 r refl)
 plain-lives l old key (Thread r) w k0 k1 k2 k3 = absurd (k3 r refl)
 
-pub tables_of-requires : goal.tables_of-requires
-tables_of-requires c = sizes_laid _ c.requires.laid
-
 pub shade-requires : goal.shade-requires
-shade-requires c = rw c.tables_of.ensures (tables_room _ _ c.requires.laid c.requires.l_in_bounds)
-
-pub functions_of-requires : goal.functions_of-requires
-functions_of-requires c = sizes_laid _ c.requires.laid
+shade-requires c = rw c.tables_of.ensures (tables_room _ _ (laid_of _ c.args.l.fits) c.requires.l_in_bounds)
 
 pub shade-requires-in-Function : goal.shade-requires-in-Function
-shade-requires-in-Function c = rw c.functions_of.ensures (functions_room _ _ c.requires.laid c.requires.l_in_bounds)
-
-pub threads_of-requires : goal.threads_of-requires
-threads_of-requires c = sizes_laid _ c.requires.laid
+shade-requires-in-Function c = rw c.functions_of.ensures (functions_room _ _ (laid_of _ c.args.l.fits) c.requires.l_in_bounds)
 
 pub shade-requires-in-Thread : goal.shade-requires-in-Thread
-shade-requires-in-Thread c = rw c.threads_of.ensures (threads_room _ _ c.requires.laid c.requires.l_in_bounds)
-
-pub userdata_of-requires : goal.userdata_of-requires
-userdata_of-requires c = sizes_laid _ c.requires.laid
+shade-requires-in-Thread c = rw c.threads_of.ensures (threads_room _ _ (laid_of _ c.args.l.fits) c.requires.l_in_bounds)
 
 pub shade-requires-in-Userdata : goal.shade-requires-in-Userdata
-shade-requires-in-Userdata c = rw c.userdata_of.ensures (userdata_room _ _ c.requires.laid c.requires.l_in_bounds)
+shade-requires-in-Userdata c = rw c.userdata_of.ensures (userdata_room _ _ (laid_of _ c.args.l.fits) c.requires.l_in_bounds)
 
 pub returns-then-shade-old : goal.returns-then-shade-old
 unfolding is_dead
-returns-then-shade-old c = rw c.in-Userdata.is (eq_yes _ _ _ _ _ (sym ((rw c.userdata_of.ensures at c.shade-in-Userdata.ensures)) ∙ c.if-shade-old.true) refl)
+returns-then-shade-old c = rw c.in-Userdata.is (eq_yes _ _ _ _ _ (sym ((rw c.userdata_of.ensures at c.shade-in-Userdata.ensures)) ∙ c.if-shade-old.true) (eq-eqb _ _ c.if-shade-old.true))
 
-pub returns-then-key : goal.returns-then-key
+pub returns-else-not-key : goal.returns-else-not-key
 unfolding is_dead
-returns-then-key c = rw c.in-Userdata.is (eq_no _ _ _ _ _ (λ e. c.if-shade-old.false ((rw c.userdata_of.ensures at c.shade-in-Userdata.ensures) ∙ e)) (rw c.if-key.true))
+returns-else-not-key c = rw c.in-Userdata.is (eq_no _ _ _ _ _ (λ e. c.if-shade-old.false ((rw c.userdata_of.ensures at c.shade-in-Userdata.ensures) ∙ e)) (rw c.if-not-key.false))
 
 pub is_finalized-requires : goal.is_finalized-requires
 is_finalized-requires c = c.requires
@@ -76,9 +64,9 @@ pub returns-in-Thread : goal.returns-in-Thread
 unfolding is_dead
 returns-in-Thread c = rw (c.in-Thread.is, ← (rw c.threads_of.ensures at c.shade-in-Thread.ensures))
 
-pub returns-else-key : goal.returns-else-key
+pub returns-then-not-key : goal.returns-then-not-key
 unfolding is_dead
-returns-else-key c = rw c.in-Userdata.is (eq_no _ _ _ _ _ (λ e. c.if-shade-old.false ((rw c.userdata_of.ensures at c.shade-in-Userdata.ensures) ∙ e)) (rw c.if-key.false c.is_finalized.ensures))
+returns-then-not-key c = rw c.in-Userdata.is (eq_no _ _ _ _ _ (λ e. c.if-shade-old.false ((rw c.userdata_of.ensures at c.shade-in-Userdata.ensures) ∙ e)) (rw c.if-not-key.true c.is_finalized.ensures))
 
 pub returns-in_default : goal.returns-in_default
 returns-in_default c = plain-lives _ _ _ _ _ c.in_default.not-Table c.in_default.not-Function c.in_default.not-Userdata c.in_default.not-Thread

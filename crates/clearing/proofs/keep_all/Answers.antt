@@ -2,27 +2,18 @@
 use mathlib.Core.Path.{refl, ◌∙◌}
 use native.Mathlib.Omega.{arith}
 use Rattle.base.specs.Loop.{run_again, run_end}
-use Rattle.laid.specs.Laid.{weak_room_lem, sizes_laid}
+use Rattle.laid.specs.Laid.{weak_room_lem, laid_of}
 use Rattle.clearing.specs.Strings.{keep_all}
 use Rattle.clearing.proofs.keep_all.Goals as goal
 
-pub weak_of-requires : goal.weak_of-requires
-weak_of-requires c = sizes_laid _ c.requires.laid
-
 pub length_of-n-requires : goal.length_of-n-requires
-length_of-n-requires c = rw c.weak_of.ensures (weak_room_lem _ _ c.requires.laid c.requires.l_in_bounds)
+length_of-n-requires c = rw c.weak_of.ensures (weak_room_lem _ _ (laid_of _ c.args.l.fits) c.requires.l_in_bounds)
 
 pub loop-k-init : goal.loop-k-init
 loop-k-init c = record { rest = refl; long = refl }
 
 pub keep_listed-requires : goal.keep_listed-requires
-keep_listed-requires c = record { laid = c.requires.laid; l_in_bounds = omega (arith, c.requires.l_in_bounds, c.loop-k.invariant.long) }
-
-pub overflow_add-k : goal.overflow_add-k
-overflow_add-k c = omega arith
-
-pub loop-k-smaller : goal.loop-k-smaller
-loop-k-smaller c = omega (arith, c.loop-k-test.true)
+keep_listed-requires c = record { l_in_bounds = omega (arith, c.requires.l_in_bounds, c.loop-k.invariant.long) }
 
 pub loop-k-preserved : goal.loop-k-preserved
 loop-k-preserved c = record { rest = run_again _ c.loop-k.invariant.rest c.loop-k-test.true c.keep_listed.ensures; long = c.keep_listed.auto.w ∙ c.loop-k.invariant.long }

@@ -1,15 +1,12 @@
 -- `clearing::keep_listed` meets its contract: the callees' equations joined. Assumes nothing.
 use mathlib.Core.Path.{refl}
-use Rattle.laid.specs.Laid.{weak_room_lem, sizes_laid}
+use Rattle.laid.specs.Laid.{weak_room_lem, laid_of}
 use Rattle.clearing.specs.Strings.{on_table, keep_listed}
 use Rattle.clearing.proofs.Laws.{passed}
 use Rattle.clearing.proofs.keep_listed.Goals as goal
 
-pub weak_of-requires : goal.weak_of-requires
-weak_of-requires c = sizes_laid _ c.requires.laid
-
 pub item_at-requires : goal.item_at-requires
-item_at-requires c = rw c.weak_of.ensures (weak_room_lem _ _ c.requires.laid c.requires.l_in_bounds)
+item_at-requires c = rw c.weak_of.ensures (weak_room_lem _ _ (laid_of _ c.args.l.fits) c.requires.l_in_bounds)
 
 pub keep_table-requires : goal.keep_table-requires
 keep_table-requires c = c.requires

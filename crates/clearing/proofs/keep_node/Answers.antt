@@ -15,13 +15,13 @@ unfolding keep_node
 returns-then-is_nil_at c = rw (← c.is_nil_at.ensures, c.if-is_nil_at.true)
 
 pub keep_string-requires : goal.keep_string-requires
-keep_string-requires c = record { laid = c.requires.laid; l_in_bounds = c.requires.l_in_bounds; p_in_bounds = omega (arith, c.requires.q_in_bounds) }
+keep_string-requires c = record { l_in_bounds = c.requires.l_in_bounds; p_in_bounds = omega (arith, c.requires.q_in_bounds) }
 
 pub overflow_add-q : goal.overflow_add-q
 overflow_add-q c = omega arith
 
 pub keep_string-requires-2 : goal.keep_string-requires-2
-keep_string-requires-2 c = record { laid = c.requires.laid; l_in_bounds = omega (arith, c.requires.l_in_bounds, c.keep_string.auto.w); p_in_bounds = omega (arith, c.requires.q_in_bounds, c.keep_string.auto.w) }
+keep_string-requires-2 c = record { l_in_bounds = omega (arith, c.requires.l_in_bounds, c.keep_string.auto.w); p_in_bounds = omega (arith, c.requires.q_in_bounds, c.keep_string.auto.w) }
 
 pub shape_of-w : goal.shape_of-w
 shape_of-w c = c.keep_string-2.auto.w ∙ c.keep_string.auto.w

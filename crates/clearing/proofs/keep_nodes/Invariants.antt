@@ -1,12 +1,8 @@
 -- `clearing::keep_nodes` meets its contract: what is left of the loop gives the whole. Assumes nothing.
-use Prim.Native.Nat.{◌-◌}
 use Rattle.layout.specs.Layout.{lay_of}
 use Rattle.mark.proofs.Laws.{Going}
 use Rattle.clearing.specs.Strings.{keep_nth_node}
 use Rattle.clearing.proofs.keep_nodes.Given as goal
 
 abbrev pub invariant-loop-j : goal.invariant-loop-j
-invariant-loop-j l = Going (keep_nth_node (lay_of l.l) l.white l.q) l.n l.initial.w l.w l.j
-
-abbrev pub decreases-loop-j : goal.decreases-loop-j
-decreases-loop-j l = l.n - l.j
+invariant-loop-j l = Going (keep_nth_node (lay_of l.l.sizes) l.white l.q) l.n l.initial.w l.w l.j

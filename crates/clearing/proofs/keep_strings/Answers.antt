@@ -15,13 +15,7 @@ pub overflow_add-p : goal.overflow_add-p
 overflow_add-p c = omega arith
 
 pub keep_string-requires : goal.keep_string-requires
-keep_string-requires c = record { laid = c.requires.laid; l_in_bounds = omega (arith, c.requires.l_in_bounds, c.loop-i.invariant.long); p_in_bounds = omega (arith, c.requires.n_in_bounds, c.loop-i.invariant.long, c.loop-i-test.true) }
-
-pub overflow_add-i : goal.overflow_add-i
-overflow_add-i c = omega arith
-
-pub loop-i-smaller : goal.loop-i-smaller
-loop-i-smaller c = omega (arith, c.loop-i-test.true)
+keep_string-requires c = record { l_in_bounds = omega (arith, c.requires.l_in_bounds, c.loop-i.invariant.long); p_in_bounds = omega (arith, c.requires.n_in_bounds, c.loop-i.invariant.long, c.loop-i-test.true) }
 
 pub loop-i-preserved : goal.loop-i-preserved
 loop-i-preserved c = record { rest = run_again _ c.loop-i.invariant.rest c.loop-i-test.true c.keep_string.ensures; long = c.keep_string.auto.w ∙ c.loop-i.invariant.long }

@@ -7,12 +7,12 @@ pub read_value-requires : goal.read_value-requires
 read_value-requires c = omega (arith, c.requires.q_in_bounds)
 
 pub is_dead-requires : goal.is_dead-requires
-is_dead-requires c = record { laid = c.requires.laid; l_in_bounds = c.requires.l_in_bounds }
+is_dead-requires c = record { l_in_bounds = c.requires.l_in_bounds }
 
 pub returns-then-m : goal.returns-then-m
 unfolding key_dies
 returns-then-m c = rw (c.if-m.true, ← c.read_value.ensures) c.is_dead.ensures
 
-pub returns : goal.returns
+pub returns-else-m : goal.returns-else-m
 unfolding key_dies
-returns c = rw c.if-m.false
+returns-else-m c = rw c.if-m.false

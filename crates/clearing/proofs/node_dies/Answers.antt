@@ -12,6 +12,6 @@ returns-then-key_dies c = rw (← c.key_dies.ensures, c.if-key_dies.true)
 pub value_dies-requires : goal.value_dies-requires
 value_dies-requires c = c.requires
 
-pub returns : goal.returns
+pub returns-else-key_dies : goal.returns-else-key_dies
 unfolding node_dies
-returns c = rw (← c.key_dies.ensures, c.if-key_dies.false) c.value_dies.ensures
+returns-else-key_dies c = rw (← c.key_dies.ensures, c.if-key_dies.false) c.value_dies.ensures

@@ -1,19 +1,20 @@
 -- `closures::new_lua` meets its contract: the record is written where it was made; a refusal is the answer. Assumes nothing.
 use native.Mathlib.Omega.{arith}
-use Rattle.laid.specs.Laid.{function_words}
+use Rattle.std.proofs.lemmas.Result.{err_from_is_err_and}
+use Rattle.laid.specs.Laid.{function_words, laid_of}
 use Rattle.closures.specs.Closures.{new_lua}
 use Rattle.closures.proofs.new_lua.Goals as goal
 
 pub overflow_add-p : goal.overflow_add-p
-overflow_add-p c = omega (arith, (rw c.in-At.is at c.new_closure.ensures.1).1, function_words _ c.requires.laid)
+overflow_add-p c = omega (arith, (rw c.in_ok-i.was at c.new_closure.ensures.1).1, function_words _ (laid_of _ c.args.l.fits))
 
 pub put_upvalues-requires : goal.put_upvalues-requires
-put_upvalues-requires c = (omega (arith, (rw c.in-At.is at c.new_closure.ensures.1).1, function_words _ c.requires.laid, c.new_closure.auto.w, c.requires.proto_bound), omega arith)
+put_upvalues-requires c = (omega (arith, (rw c.in_ok-i.was at c.new_closure.ensures.1).1, function_words _ (laid_of _ c.args.l.fits), c.new_closure.auto.w, c.requires.proto_bound), omega arith)
 
-pub returns-in-At : goal.returns-in-At
+pub returns : goal.returns
 unfolding new_lua
-returns-in-At c = rw (← c.new_closure.ensures.0, c.in-At.is, ← c.put_upvalues.ensures)
+returns c = rw (← c.new_closure.ensures.0, c.in_ok-i.was, ← c.put_upvalues.ensures)
 
-pub returns-in-Refused : goal.returns-in-Refused
+pub returns-in_err-i : goal.returns-in_err-i
 unfolding new_lua
-returns-in-Refused c = rw (← c.new_closure.ensures.0, c.in-Refused.is)
+returns-in_err-i c = let p = err_from_is_err_and c.from_residual.result c.from_residual.ensures.1 in rw (← c.new_closure.ensures.0, c.in_err-i.was, p.1, p.2)

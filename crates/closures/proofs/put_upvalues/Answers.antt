@@ -23,12 +23,6 @@ read_upval-requires c = omega (arith, c.loop-k-test.true, c.requires)
 pub write_upval-requires : goal.write_upval-requires
 write_upval-requires c = omega (arith, c.loop-k-test.true, c.requires, c.loop-k.invariant.long)
 
-pub overflow_add-k : goal.overflow_add-k
-overflow_add-k c = omega (arith, c.loop-k-test.true)
-
-pub loop-k-smaller : goal.loop-k-smaller
-loop-k-smaller c = omega (arith, c.loop-k-test.true)
-
 pub loop-k-preserved : goal.loop-k-preserved
 unfolding put_upvalue
 loop-k-preserved c = record { rest = run_again _ c.loop-k.invariant.rest c.loop-k-test.true (rw c.read_upval.ensures at c.write_upval.ensures); long = c.write_upval.auto.w ∙ c.loop-k.invariant.long }

@@ -2,4 +2,4 @@
 use Rattle.counters.proofs.tracked.Goals as goal
 
 pub returns : goal.returns
-returns c = rw (← c.sum_of-total.ensures, ← c.larger-peak.ensures)
+returns c = rw (← c.saturating_add-total.ensures, ← c.max.ensures)

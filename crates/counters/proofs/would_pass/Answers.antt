@@ -2,4 +2,4 @@
 use Rattle.counters.proofs.would_pass.Goals as goal
 
 pub returns : goal.returns
-returns c = rw (← c.sum_of.ensures)
+returns c = rw (← c.saturating_add.ensures)

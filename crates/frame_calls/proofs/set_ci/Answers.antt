@@ -1,17 +1,17 @@
 -- `frame_calls::set_ci` meets its contract: the callees' equations joined. Assumes nothing.
-use mathlib.Core.Path.{◌∙◌, sym}
-use Rattle.entered.specs.Entered.{entered}
-use Rattle.test1.specs.Calls.{call_refused, call_words}
+use mathlib.Core.Path.{ap}
+use Rattle.layout.specs.Plans.{sizes_given}
+use Rattle.test1.specs.Calls.{call_err, call_words}
 use Rattle.frame_calls.specs.FrameCalls.{set_ci}
 use Rattle.frame_calls.proofs.set_ci.Goals as goal
 
 pub set_ci_in-requires : goal.set_ci_in-requires
-set_ci_in-requires c = record { laid = entered _ _ _ (sym c.in-Fits.is ∙ c.enter.ensures.0); l_in_bounds = (rw c.in-Fits.is at c.enter.ensures.1).words }
+set_ci_in-requires c = record { l_in_bounds = (rw c.in_ok-l.was at c.enter.ensures.1).words }
 
-pub returns-in-Fits : goal.returns-in-Fits
+pub returns : goal.returns
 unfolding set_ci
-returns-in-Fits c = call_words _ _ _ _ _ _ _ c.enter.ensures.0 c.in-Fits.is c.set_ci_in.ensures
+returns c = call_words _ _ _ _ _ _ _ c.enter.ensures.0 (ap sizes_given c.in_ok-l.was) c.set_ci_in.ensures
 
-pub returns-in-Refused : goal.returns-in-Refused
+pub returns-in_err-l : goal.returns-in_err-l
 unfolding set_ci
-returns-in-Refused c = call_refused _ _ _ _ _ c.enter.ensures.0 c.in-Refused.is
+returns-in_err-l c = call_err _ _ _ c.enter.ensures.0 c.in_err-l.was c.from_residual.ensures.1

@@ -3,7 +3,7 @@ use mathlib.Core.Path.{refl}
 use native.Mathlib.Omega.{arith}
 use Rattle.layout.specs.Layout.{lay_of}
 use Rattle.base.specs.Ways.{le_no, le_yes, lt_no, lt_yes}
-use Rattle.laid.specs.Laid.{parts_room}
+use Rattle.laid.specs.Laid.{parts_room, laid_of}
 use Rattle.frame_calls.specs.FrameCalls.{set_frame_in}
 use Rattle.frame_calls.proofs.set_frame_in.Goals as goal
 
@@ -17,7 +17,7 @@ returns-then-f-gt256 c = rw (← c.wide-k.ensures.0, ← c.wide-f.ensures.0) (le
 
 pub set_frame_function-requires : goal.set_frame_function-requires
 unfolding lay_of
-set_frame_function-requires c = record { parts = parts_room _ c.args.w.now c.requires.laid c.requires.l_in_bounds; i_bound = omega (arith, c.if-l-k.false); n_bound = omega (arith, c.if-f-gt256.false) }
+set_frame_function-requires c = record { parts = parts_room _ c.args.w.now (laid_of _ c.args.l.fits) c.requires.l_in_bounds; i_bound = omega (arith, c.if-l-k.false); n_bound = omega (arith, c.if-f-gt256.false) }
 
 pub returns : goal.returns
 unfolding set_frame_in lay_of

@@ -2,10 +2,10 @@
 use Rattle.given.specs.Given.{is_named}
 use Rattle.given.proofs.is_named.Goals as goal
 
-pub returns-in-At : goal.returns-in-At
+pub returns-in-Some : goal.returns-in-Some
 unfolding is_named
-returns-in-At c = rw (← c.name_of.ensures.0, c.in-At.is)
+returns-in-Some c = rw (← c.name_of.ensures.0, c.in-Some.is)
 
-pub returns-in-Stale : goal.returns-in-Stale
+pub returns-in-None : goal.returns-in-None
 unfolding is_named
-returns-in-Stale c = rw (← c.name_of.ensures.0, c.in-Stale.is)
+returns-in-None c = rw (← c.name_of.ensures.0, c.in-None.is)

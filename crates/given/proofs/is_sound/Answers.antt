@@ -4,7 +4,7 @@ use mathlib.Core.List.{List}
 use mathlib.Core.Path.{◌≡◌, refl}
 use Prim.Native.Nat.{ℕ}
 use Rattle.given.specs.Given.{is_sound}
-use Rattle.laid.specs.Laid.{functions_room, strings_room, tables_room, threads_room, userdata_room, sizes_laid}
+use Rattle.laid.specs.Laid.{functions_room, strings_room, tables_room, threads_room, userdata_room, laid_of}
 use Rattle.layout.specs.declared.Lay.{Lay}
 use Rattle.value.specs.declared.Value.TheVariants.{Boolean, Function, Light, Nil, Number, Str, Table, Thread, Userdata}
 use Rattle.value.specs.declared.Value.{Value}
@@ -29,35 +29,20 @@ plain-sound l (Function r) w k0 k1 k2 k3 k4 = absurd (k2 r refl)
 plain-sound l (Userdata r) w k0 k1 k2 k3 k4 = absurd (k3 r refl)
 plain-sound l (Thread r) w k0 k1 k2 k3 k4 = absurd (k4 r refl)
 
-pub strings_of-requires : goal.strings_of-requires
-strings_of-requires c = sizes_laid _ c.requires.laid
-
 pub is_named-requires : goal.is_named-requires
-is_named-requires c = rw c.strings_of.ensures (strings_room _ _ c.requires.laid c.requires.l_in_bounds)
-
-pub tables_of-requires : goal.tables_of-requires
-tables_of-requires c = sizes_laid _ c.requires.laid
+is_named-requires c = rw c.strings_of.ensures (strings_room _ _ (laid_of _ c.args.l.fits) c.requires.l_in_bounds)
 
 pub is_named-requires-in-Table : goal.is_named-requires-in-Table
-is_named-requires-in-Table c = rw c.tables_of.ensures (tables_room _ _ c.requires.laid c.requires.l_in_bounds)
-
-pub functions_of-requires : goal.functions_of-requires
-functions_of-requires c = sizes_laid _ c.requires.laid
+is_named-requires-in-Table c = rw c.tables_of.ensures (tables_room _ _ (laid_of _ c.args.l.fits) c.requires.l_in_bounds)
 
 pub is_named-requires-in-Function : goal.is_named-requires-in-Function
-is_named-requires-in-Function c = rw c.functions_of.ensures (functions_room _ _ c.requires.laid c.requires.l_in_bounds)
-
-pub userdata_of-requires : goal.userdata_of-requires
-userdata_of-requires c = sizes_laid _ c.requires.laid
+is_named-requires-in-Function c = rw c.functions_of.ensures (functions_room _ _ (laid_of _ c.args.l.fits) c.requires.l_in_bounds)
 
 pub is_named-requires-in-Userdata : goal.is_named-requires-in-Userdata
-is_named-requires-in-Userdata c = rw c.userdata_of.ensures (userdata_room _ _ c.requires.laid c.requires.l_in_bounds)
-
-pub threads_of-requires : goal.threads_of-requires
-threads_of-requires c = sizes_laid _ c.requires.laid
+is_named-requires-in-Userdata c = rw c.userdata_of.ensures (userdata_room _ _ (laid_of _ c.args.l.fits) c.requires.l_in_bounds)
 
 pub is_named-requires-in-Thread : goal.is_named-requires-in-Thread
-is_named-requires-in-Thread c = rw c.threads_of.ensures (threads_room _ _ c.requires.laid c.requires.l_in_bounds)
+is_named-requires-in-Thread c = rw c.threads_of.ensures (threads_room _ _ (laid_of _ c.args.l.fits) c.requires.l_in_bounds)
 
 pub returns-in-Str : goal.returns-in-Str
 unfolding is_sound

@@ -2,10 +2,10 @@
 use Rattle.given.specs.Given.{is_table_or}
 use Rattle.given.proofs.is_table_or.Goals as goal
 
-pub returns-in-Present : goal.returns-in-Present
+pub returns-in-Some : goal.returns-in-Some
 unfolding is_table_or
-returns-in-Present c = rw c.in-Present.is c.is_table.ensures
+returns-in-Some c = rw c.in-Some.is c.is_table.ensures
 
-pub returns-in-Absent : goal.returns-in-Absent
+pub returns-in-None : goal.returns-in-None
 unfolding is_table_or
-returns-in-Absent c = rw c.in-Absent.is
+returns-in-None c = rw c.in-None.is

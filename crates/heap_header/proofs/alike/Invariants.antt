@@ -5,6 +5,3 @@ use Rattle.heap_header.proofs.alike.Given as goal
 
 abbrev pub invariant-loop-i : goal.invariant-loop-i
 invariant-loop-i l = l.e ≤ length l.w
-
-abbrev pub decreases-loop-i : goal.decreases-loop-i
-decreases-loop-i l = l.e - l.i

@@ -4,8 +4,5 @@ use Prim.Native.Nat.{◌≤◌}
 use lib.ListN.{length}
 use Rattle.heapscript.proofs.run_all.Given as goal
 
-abbrev pub invariant-loop-turns : goal.invariant-loop-turns
-invariant-loop-turns g l = (l.s.count ≤ length l.initial.line) × (length l.w ≡ length l.initial.w) × (length l.b ≡ length l.initial.b) × (length l.made ≡ length l.initial.made) × (length l.line ≡ length l.initial.line)
-
-abbrev pub decreases-loop-turns : goal.decreases-loop-turns
-decreases-loop-turns g l = l.turns
+abbrev pub invariant-loop : goal.invariant-loop
+invariant-loop g l = (l.s.count ≤ length l.initial.line) × (length l.w ≡ length l.initial.w) × (length l.b ≡ length l.initial.b) × (length l.made ≡ length l.initial.made) × (length l.line ≡ length l.initial.line)

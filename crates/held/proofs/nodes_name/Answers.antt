@@ -9,17 +9,11 @@ pub loop-j-init : goal.loop-j-init
 loop-j-init c = turns_start _ _ _ _ c.node_count-n.ensures.0
 
 pub node_names-requires : goal.node_names-requires
-node_names-requires c = record { laid = c.requires.laid; l_in_bounds = c.requires.l_in_bounds; p_in_bounds = (c.requires.p_in_bounds, omega (arith, c.loop-j-test.true, c.node_count-n.ensures.1)) }
+node_names-requires c = record { l_in_bounds = c.requires.l_in_bounds; p_in_bounds = (c.requires.p_in_bounds, omega (arith, c.loop-j-test.true, c.node_count-n.ensures.1)) }
 
 pub returns-then-not-node_names : goal.returns-then-not-node_names
 unfolding nodes_name
 returns-then-not-node_names c = each_stop _ _ _ c.loop-j.invariant c.loop-j-test.true (sym c.node_names.ensures ∙ c.if-not-node_names.true)
-
-pub overflow_add-j : goal.overflow_add-j
-overflow_add-j c = omega (arith, c.loop-j-test.true)
-
-pub loop-j-smaller : goal.loop-j-smaller
-loop-j-smaller c = omega (arith, c.loop-j-test.true)
 
 pub loop-j-preserved : goal.loop-j-preserved
 loop-j-preserved c = each_again _ _ _ c.loop-j.invariant c.loop-j-test.true (sym c.node_names.ensures ∙ c.if-not-node_names.false)

@@ -9,7 +9,4 @@ use Rattle.held.specs.Held.{node_names}
 use Rattle.held.proofs.nodes_name.Given as goal
 
 abbrev pub invariant-loop-j : goal.invariant-loop-j
-invariant-loop-j l = turns (each_turn (node_names (lay_of l.l) l.w l.p)) true (l.n - l.j) l.j ≡ each (node_names (lay_of l.l) l.w l.p) (node_count l.p l.w)
-
-abbrev pub decreases-loop-j : goal.decreases-loop-j
-decreases-loop-j l = l.n - l.j
+invariant-loop-j l = turns (each_turn (node_names (lay_of l.l.sizes) l.w l.p)) true (l.n - l.j) l.j ≡ each (node_names (lay_of l.l.sizes) l.w l.p) (node_count l.p l.w)

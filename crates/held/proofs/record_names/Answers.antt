@@ -3,19 +3,19 @@ use Rattle.held.specs.Held.{record_names}
 use Rattle.held.proofs.record_names.Goals as goal
 
 pub table_names-requires : goal.table_names-requires
-table_names-requires c = record { laid = c.requires.laid; l_in_bounds = c.requires.l_in_bounds; p_in_bounds = rw c.in-Tables.is at c.requires.k_in_bounds }
+table_names-requires c = record { l_in_bounds = c.requires.l_in_bounds; p_in_bounds = rw c.in-Tables.is at c.requires.k_in_bounds }
 
 pub closure_names-requires : goal.closure_names-requires
-closure_names-requires c = record { laid = c.requires.laid; l_in_bounds = c.requires.l_in_bounds; p_in_bounds = rw c.in-Functions.is at c.requires.k_in_bounds }
+closure_names-requires c = record { l_in_bounds = c.requires.l_in_bounds; p_in_bounds = rw c.in-Functions.is at c.requires.k_in_bounds }
 
 pub upvalue_names-requires : goal.upvalue_names-requires
-upvalue_names-requires c = record { laid = c.requires.laid; l_in_bounds = c.requires.l_in_bounds; p_in_bounds = rw c.in-Upvalues.is at c.requires.k_in_bounds }
+upvalue_names-requires c = record { l_in_bounds = c.requires.l_in_bounds; p_in_bounds = rw c.in-Upvalues.is at c.requires.k_in_bounds }
 
 pub userdata_names-requires : goal.userdata_names-requires
-userdata_names-requires c = record { laid = c.requires.laid; l_in_bounds = c.requires.l_in_bounds; p_in_bounds = rw c.in-Userdata.is at c.requires.k_in_bounds }
+userdata_names-requires c = record { l_in_bounds = c.requires.l_in_bounds; p_in_bounds = rw c.in-Userdata.is at c.requires.k_in_bounds }
 
 pub thread_names-requires : goal.thread_names-requires
-thread_names-requires c = record { laid = c.requires.laid; l_in_bounds = c.requires.l_in_bounds; p_in_bounds = rw c.in-Threads.is at c.requires.k_in_bounds }
+thread_names-requires c = record { l_in_bounds = c.requires.l_in_bounds; p_in_bounds = rw c.in-Threads.is at c.requires.k_in_bounds }
 
 pub returns-in-Strings : goal.returns-in-Strings
 unfolding record_names

@@ -2,26 +2,23 @@
 use mathlib.Core.Path.{refl}
 use native.Mathlib.Omega.{arith}
 use Rattle.base.specs.Ways.{eq_no, eq_yes}
-use Rattle.laid.specs.Laid.{sizes_laid}
+use Rattle.laid.specs.Laid.{laid_of}
 use Rattle.held.specs.Held.{slot_names}
 use Rattle.held.proofs.Laws.{kind_room, kind_words}
 use Rattle.held.proofs.slot_names.Goals as goal
 
-pub arena_of-a-requires : goal.arena_of-a-requires
-arena_of-a-requires c = sizes_laid _ c.requires.laid
-
 pub colour_of-requires : goal.colour_of-requires
-colour_of-requires c = record { room = rw c.arena_of-a.ensures (kind_room _ c.args.k _ c.requires.laid c.requires.l_in_bounds); i_lt_slots = rw c.arena_of-a.ensures (c.requires.i_bound) }
+colour_of-requires c = record { room = rw c.arena_of-a.ensures (kind_room _ c.args.k _ (laid_of _ c.args.l.fits) c.requires.l_in_bounds); i_lt_slots = rw c.arena_of-a.ensures (c.requires.i_bound) }
 
 pub returns-then-colour_of-eq0 : goal.returns-then-colour_of-eq0
 unfolding slot_names
 returns-then-colour_of-eq0 c = rw (← c.arena_of-a.ensures) (eq_yes _ _ _ _ _ (omega (arith, c.if-colour_of-eq0.true, c.colour_of.ensures)) refl)
 
 pub body_of-requires : goal.body_of-requires
-body_of-requires c = record { room = rw c.arena_of-a.ensures (kind_room _ c.args.k _ c.requires.laid c.requires.l_in_bounds); i_lt_slots = rw c.arena_of-a.ensures (c.requires.i_bound) }
+body_of-requires c = record { room = rw c.arena_of-a.ensures (kind_room _ c.args.k _ (laid_of _ c.args.l.fits) c.requires.l_in_bounds); i_lt_slots = rw c.arena_of-a.ensures (c.requires.i_bound) }
 
 pub record_names-requires : goal.record_names-requires
-record_names-requires c = record { laid = c.requires.laid; l_in_bounds = c.requires.l_in_bounds; k_in_bounds = rw (← kind_words _ c.args.k c.requires.laid, ← c.arena_of-a.ensures) c.body_of.ensures.1 }
+record_names-requires c = record { l_in_bounds = c.requires.l_in_bounds; k_in_bounds = rw (← kind_words _ c.args.k (laid_of _ c.args.l.fits), ← c.arena_of-a.ensures) c.body_of.ensures.1 }
 
 pub returns : goal.returns
 unfolding slot_names

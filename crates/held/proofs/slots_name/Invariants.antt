@@ -10,7 +10,4 @@ use Rattle.held.specs.Held.{slot_names}
 use Rattle.held.proofs.slots_name.Given as goal
 
 abbrev pub invariant-loop-i : goal.invariant-loop-i
-invariant-loop-i l = turns (each_turn (slot_names (lay_of l.l) l.w l.k)) true (l.n - l.i) l.i ≡ each (slot_names (lay_of l.l) l.w l.k) (used (arena_of (lay_of l.l) l.k) l.w)
-
-abbrev pub decreases-loop-i : goal.decreases-loop-i
-decreases-loop-i l = l.n - l.i
+invariant-loop-i l = turns (each_turn (slot_names (lay_of l.l.sizes) l.w l.k)) true (l.n - l.i) l.i ≡ each (slot_names (lay_of l.l.sizes) l.w l.k) (used (arena_of (lay_of l.l.sizes) l.k) l.w)

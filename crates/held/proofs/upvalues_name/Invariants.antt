@@ -8,7 +8,4 @@ use Rattle.held.specs.Held.{upvalue_named}
 use Rattle.held.proofs.upvalues_name.Given as goal
 
 abbrev pub invariant-loop-k : goal.invariant-loop-k
-invariant-loop-k l = turns (each_turn (upvalue_named (lay_of l.l) l.w l.q)) true (l.n - l.k) l.k ≡ each (upvalue_named (lay_of l.l) l.w l.q) l.n
-
-abbrev pub decreases-loop-k : goal.decreases-loop-k
-decreases-loop-k l = l.n - l.k
+invariant-loop-k l = turns (each_turn (upvalue_named (lay_of l.l.sizes) l.w l.q)) true (l.n - l.k) l.k ≡ each (upvalue_named (lay_of l.l.sizes) l.w l.q) l.n

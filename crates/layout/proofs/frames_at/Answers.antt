@@ -2,9 +2,6 @@
 use Rattle.layout.specs.Layout.{lay_of}
 use Rattle.layout.proofs.frames_at.Goals as goal
 
-pub frames_at-requires : goal.frames_at-requires
-frames_at-requires c = c.requires
-
 pub returns : goal.returns
 unfolding lay_of
 returns c = rw c.frames_at.ensures

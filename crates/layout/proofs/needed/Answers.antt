@@ -1,17 +1,12 @@
 -- `layout::needed` meets its contract: from what its callees promise. Assumes nothing.
+use Rattle.std.proofs.lemmas.Result.{err_from_is_err_and}
 use Rattle.layout.specs.Layout.{needed_of}
 use Rattle.layout.proofs.needed.Goals as goal
 
-pub words_of-requires : goal.words_of-requires
-words_of-requires c = rw c.in-Fits.is at c.plan.ensures.1
-
-pub bytes_of-requires : goal.bytes_of-requires
-bytes_of-requires c = rw c.in-Fits.is at c.plan.ensures.1
-
-pub returns-in-Fits : goal.returns-in-Fits
+pub returns : goal.returns
 unfolding needed_of
-returns-in-Fits c = rw (← c.plan.ensures.0, c.in-Fits.is, c.words_of.ensures, c.bytes_of.ensures)
+returns c = rw (← c.plan.ensures, c.in_ok-z.was, c.words_of.ensures, c.bytes_of.ensures)
 
-pub returns-in-Refused : goal.returns-in-Refused
+pub returns-in_err-z : goal.returns-in_err-z
 unfolding needed_of
-returns-in-Refused c = rw (← c.plan.ensures.0, c.in-Refused.is)
+returns-in_err-z c = let p = err_from_is_err_and c.from_residual.result c.from_residual.ensures.1 in rw (← c.plan.ensures, c.in_err-z.was, p.1, p.2)

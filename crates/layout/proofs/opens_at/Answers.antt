@@ -2,9 +2,6 @@
 use Rattle.layout.specs.Layout.{lay_of}
 use Rattle.layout.proofs.opens_at.Goals as goal
 
-pub opens_at-requires : goal.opens_at-requires
-opens_at-requires c = c.requires
-
 pub returns : goal.returns
 unfolding lay_of
 returns c = rw c.opens_at.ensures

@@ -6,11 +6,11 @@ use Rattle.layout.proofs.plan.Goals as goal
 
 pub returns-then-not-sizes_fit : goal.returns-then-not-sizes_fit
 unfolding planned
-returns-then-not-sizes_fit c = (rw (← c.sizes_fit.ensures, c.if-not-sizes_fit.true), tt)
+returns-then-not-sizes_fit c = rw (← c.sizes_fit.ensures, c.if-not-sizes_fit.true)
+
+pub invariant_of-result : goal.invariant_of-result
+invariant_of-result c = record { fits = sizes_fit_ok _ (sym c.sizes_fit.ensures ∙ c.if-not-sizes_fit.false) }
 
 pub returns : goal.returns
 unfolding planned
-returns c = (
-  rw (← c.sizes_fit.ensures, c.if-not-sizes_fit.false),
-  sizes_fit_ok _ (sym c.sizes_fit.ensures ∙ c.if-not-sizes_fit.false),
-)
+returns c = rw (← c.sizes_fit.ensures, c.if-not-sizes_fit.false)

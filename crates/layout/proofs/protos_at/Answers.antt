@@ -2,9 +2,6 @@
 use Rattle.layout.specs.Layout.{lay_of}
 use Rattle.layout.proofs.protos_at.Goals as goal
 
-pub boundary_at-requires : goal.boundary_at-requires
-boundary_at-requires c = c.requires
-
 pub returns : goal.returns
 unfolding lay_of
 returns c = rw c.boundary_at.ensures

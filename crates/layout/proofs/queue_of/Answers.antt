@@ -2,9 +2,6 @@
 use Rattle.layout.specs.Layout.{lay_of}
 use Rattle.layout.proofs.queue_of.Goals as goal
 
-pub queue_at-base-requires : goal.queue_at-base-requires
-queue_at-base-requires c = c.requires
-
 pub returns : goal.returns
 unfolding lay_of
-returns c = rw c.queue_at-base.ensures
+returns c = rw c.queue_at.ensures

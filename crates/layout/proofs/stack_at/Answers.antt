@@ -2,9 +2,6 @@
 use Rattle.layout.specs.Layout.{lay_of}
 use Rattle.layout.proofs.stack_at.Goals as goal
 
-pub stack_at-requires : goal.stack_at-requires
-stack_at-requires c = c.requires
-
 pub returns : goal.returns
 unfolding lay_of
 returns c = rw c.stack_at.ensures

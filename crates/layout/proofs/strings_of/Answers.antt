@@ -2,9 +2,6 @@
 use Rattle.layout.specs.Layout.{lay_of}
 use Rattle.layout.proofs.strings_of.Goals as goal
 
-pub string_bodies_at-bodies-requires : goal.string_bodies_at-bodies-requires
-string_bodies_at-bodies-requires c = c.requires
-
 pub returns : goal.returns
 unfolding lay_of
-returns c = rw c.string_bodies_at-bodies.ensures
+returns c = rw c.string_bodies_at.ensures

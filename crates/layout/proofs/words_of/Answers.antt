@@ -2,9 +2,6 @@
 use Rattle.layout.specs.Layout.{lay_of}
 use Rattle.layout.proofs.words_of.Goals as goal
 
-pub words_at-requires : goal.words_at-requires
-words_at-requires c = c.requires
-
 pub returns : goal.returns
 unfolding lay_of
 returns c = rw c.words_at.ensures

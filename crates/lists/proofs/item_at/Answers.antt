@@ -9,6 +9,6 @@ pub returns-then-length_of-i : goal.returns-then-length_of-i
 unfolding item_at
 returns-then-length_of-i c = le_yes _ _ _ _ _ (omega arith) refl
 
-pub returns : goal.returns
+pub returns-else-length_of-i : goal.returns-else-length_of-i
 unfolding item_at
-returns c = le_no _ _ _ _ _ (omega arith) c.read_item.ensures
+returns-else-length_of-i c = le_no _ _ _ _ _ (omega arith) c.read_item.ensures

@@ -8,6 +8,6 @@ pub returns-then-n-l : goal.returns-then-n-l
 unfolding push
 returns-then-n-l c = lt_yes _ _ _ _ _ (omega arith) (rw (← c.length_of-n.ensures.0) c.store.ensures)
 
-pub returns : goal.returns
+pub returns-else-n-l : goal.returns-else-n-l
 unfolding push
-returns c = lt_no _ _ _ _ _ (omega arith) c.put.ensures
+returns-else-n-l c = lt_no _ _ _ _ _ (omega arith) c.put.ensures

@@ -1,20 +1,20 @@
 -- `main_calls::open_cut` meets its contract: the callees' equations joined. Assumes nothing.
-use mathlib.Core.Path.{◌∙◌, sym}
-use Rattle.entered.specs.Entered.{entered}
-use Rattle.test1.specs.Calls.{call_refused, call_words}
+use mathlib.Core.Path.{ap}
+use Rattle.layout.specs.Plans.{sizes_given}
+use Rattle.test1.specs.Calls.{call_err, call_words}
 use Rattle.main_calls.specs.MainCalls.{open_cut}
 use Rattle.main_calls.proofs.open_cut.Goals as goal
 
 pub main_opens-s-requires : goal.main_opens-s-requires
-main_opens-s-requires c = record { laid = entered _ _ _ (sym c.in-Fits.is ∙ c.enter.ensures.0); l_in_bounds = (rw c.in-Fits.is at c.enter.ensures.1).words }
+main_opens-s-requires c = record { l_in_bounds = (rw c.in_ok-l.was at c.enter.ensures.1).words }
 
 pub cut_upvalues-requires : goal.cut_upvalues-requires
 cut_upvalues-requires c = c.main_opens-s.ensures.1
 
-pub returns-in-Fits : goal.returns-in-Fits
+pub returns : goal.returns
 unfolding open_cut
-returns-in-Fits c = call_words _ _ _ _ _ _ _ c.enter.ensures.0 c.in-Fits.is (rw (← c.main_opens-s.ensures.0) c.cut_upvalues.ensures)
+returns c = call_words _ _ _ _ _ _ _ c.enter.ensures.0 (ap sizes_given c.in_ok-l.was) (rw (← c.main_opens-s.ensures.0) c.cut_upvalues.ensures)
 
-pub returns-in-Refused : goal.returns-in-Refused
+pub returns-in_err-l : goal.returns-in_err-l
 unfolding open_cut
-returns-in-Refused c = call_refused _ _ _ _ _ c.enter.ensures.0 c.in-Refused.is
+returns-in_err-l c = call_err _ _ _ c.enter.ensures.0 c.in_err-l.was c.from_residual.ensures.1

@@ -1,18 +1,18 @@
 -- `main_calls::set_hook` meets its contract: the callees' equations joined. Assumes nothing.
-use mathlib.Core.Path.{◌∙◌, sym}
+use mathlib.Core.Path.{ap}
 use native.Mathlib.Omega.{arith}
-use Rattle.entered.specs.Entered.{entered}
-use Rattle.test1.specs.Calls.{call_refused, call_words}
+use Rattle.layout.specs.Plans.{sizes_given}
+use Rattle.test1.specs.Calls.{call_err, call_words}
 use Rattle.main_calls.specs.MainCalls.{set_hook}
 use Rattle.main_calls.proofs.set_hook.Goals as goal
 
 pub store_value-requires : goal.store_value-requires
-store_value-requires c = record { laid = entered _ _ _ (sym c.in-Fits.is ∙ c.enter.ensures.0); l_in_bounds = (rw c.in-Fits.is at c.enter.ensures.1).words; p_in_bounds = omega (arith, (rw c.in-Fits.is at c.enter.ensures.1).header) }
+store_value-requires c = record { l_in_bounds = (rw c.in_ok-l.was at c.enter.ensures.1).words; p_in_bounds = omega (arith, (rw c.in_ok-l.was at c.enter.ensures.1).header) }
 
-pub returns-in-Fits : goal.returns-in-Fits
+pub returns : goal.returns
 unfolding set_hook
-returns-in-Fits c = call_words _ _ _ _ _ _ _ c.enter.ensures.0 c.in-Fits.is c.store_value.ensures
+returns c = call_words _ _ _ _ _ _ _ c.enter.ensures.0 (ap sizes_given c.in_ok-l.was) c.store_value.ensures
 
-pub returns-in-Refused : goal.returns-in-Refused
+pub returns-in_err-l : goal.returns-in_err-l
 unfolding set_hook
-returns-in-Refused c = call_refused _ _ _ _ _ c.enter.ensures.0 c.in-Refused.is
+returns-in_err-l c = call_err _ _ _ c.enter.ensures.0 c.in_err-l.was c.from_residual.ensures.1

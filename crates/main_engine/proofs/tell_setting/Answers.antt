@@ -2,10 +2,10 @@
 use Rattle.main_engine.specs.Exports.{setting_told}
 use Rattle.main_engine.proofs.tell_setting.Goals as goal
 
-pub returns-in-Was : goal.returns-in-Was
+pub returns-in-Ok : goal.returns-in-Ok
 unfolding setting_told
-returns-in-Was c = rw (c.in-Was.is, ← c.put64.ensures)
+returns-in-Ok c = rw (c.in-Ok.is, ← c.put64.ensures)
 
-pub returns-in-Refused : goal.returns-in-Refused
+pub returns-in-Err : goal.returns-in-Err
 unfolding setting_told
-returns-in-Refused c = rw c.in-Refused.is
+returns-in-Err c = rw (c.in-Err.is, c.number.ensures)

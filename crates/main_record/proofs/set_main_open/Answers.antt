@@ -1,9 +1,5 @@
 -- `main_record::set_main_open` meets its contract: the callees' equations joined. Assumes nothing.
-use Rattle.layout.specs.Fits.{sizes_of_lem}
 use Rattle.main_record.proofs.set_main_open.Goals as goal
-
-pub opens_at-requires : goal.opens_at-requires
-opens_at-requires c = sizes_of_lem _ c.requires.parts.sizes
 
 pub returns : goal.returns
 returns c = rw (← c.opens_at.ensures) c.write_upval.ensures

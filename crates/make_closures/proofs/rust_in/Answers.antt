@@ -9,12 +9,12 @@ unfolding rust_in
 returns-then-not-values_fit c = rw (← c.values_fit.ensures, c.if-not-values_fit.true)
 
 pub new_rust-requires : goal.new_rust-requires
-new_rust-requires c = record { laid = c.requires.laid; l_in_bounds = c.requires.l_in_bounds; s_len_bound = values_most (length c.args.s.now) (sym c.values_fit.ensures ∙ c.if-not-values_fit.false) }
+new_rust-requires c = record { l_in_bounds = c.requires.l_in_bounds; s_len_bound = values_most (length c.args.s.now) (sym c.values_fit.ensures ∙ c.if-not-values_fit.false) }
 
 pub returns-then-rust_sound : goal.returns-then-rust_sound
 unfolding rust_in
 returns-then-rust_sound c = rw (← c.values_fit.ensures, c.if-not-values_fit.false, ← c.rust_sound.ensures, c.if-rust_sound.true) c.new_rust.ensures
 
-pub returns : goal.returns
+pub returns-else-rust_sound : goal.returns-else-rust_sound
 unfolding rust_in
-returns c = rw (← c.values_fit.ensures, c.if-not-values_fit.false, ← c.rust_sound.ensures, c.if-rust_sound.false)
+returns-else-rust_sound c = rw (← c.values_fit.ensures, c.if-not-values_fit.false, ← c.rust_sound.ensures, c.if-rust_sound.false)

@@ -16,12 +16,6 @@ pub returns-then-get-gt8 : goal.returns-then-get-gt8
 unfolding are_tags is_tag
 returns-then-get-gt8 c = each_stop _ _ _ c.loop-k.invariant c.loop-k-test.true (rw (← c.get.ensures) (lt-leb _ _ c.if-get-gt8.true))
 
-pub overflow_add-k : goal.overflow_add-k
-overflow_add-k c = omega (arith, c.loop-k-test.true)
-
-pub loop-k-smaller : goal.loop-k-smaller
-loop-k-smaller c = omega (arith, c.loop-k-test.true)
-
 pub loop-k-preserved : goal.loop-k-preserved
 unfolding is_tag
 loop-k-preserved c = each_again _ _ _ c.loop-k.invariant c.loop-k-test.true (rw (← c.get.ensures) (le-leb _ _ c.if-get-gt8.false))

@@ -9,6 +9,3 @@ use Rattle.make_codes.proofs.are_tags.Given as goal
 
 abbrev pub invariant-loop-k : goal.invariant-loop-k
 invariant-loop-k l = turns (each_turn (is_tag l.s)) true (l.n - l.k) l.k ≡ each (is_tag l.s) (length l.s / 3)
-
-abbrev pub decreases-loop-k : goal.decreases-loop-k
-decreases-loop-k l = l.n - l.k

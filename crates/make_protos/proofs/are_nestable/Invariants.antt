@@ -9,7 +9,4 @@ use Rattle.make_protos.specs.Making.{can_nest}
 use Rattle.make_protos.proofs.are_nestable.Given as goal
 
 abbrev pub invariant-loop-k : goal.invariant-loop-k
-invariant-loop-k l = turns (each_turn (can_nest (lay_of l.l) l.w l.s)) true (l.n - l.k) l.k ≡ each (can_nest (lay_of l.l) l.w l.s) (length l.s)
-
-abbrev pub decreases-loop-k : goal.decreases-loop-k
-decreases-loop-k l = l.n - l.k
+invariant-loop-k l = turns (each_turn (can_nest (lay_of l.l.sizes) l.w l.s)) true (l.n - l.k) l.k ≡ each (can_nest (lay_of l.l.sizes) l.w l.s) (length l.s)

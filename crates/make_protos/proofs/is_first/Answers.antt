@@ -25,12 +25,6 @@ pub returns-then-s-j : goal.returns-then-s-j
 unfolding is_first differs
 returns-then-s-j c = each_stop _ _ _ c.loop-j.invariant c.loop-j-test.true (rw (eq-eqb _ _ c.if-s-j.true))
 
-pub overflow_add-j : goal.overflow_add-j
-overflow_add-j c = omega (arith, c.loop-j-test.true)
-
-pub loop-j-smaller : goal.loop-j-smaller
-loop-j-smaller c = omega (arith, c.loop-j-test.true)
-
 pub loop-j-preserved : goal.loop-j-preserved
 unfolding differs
 loop-j-preserved c = each_again _ _ _ c.loop-j.invariant c.loop-j-test.true (rw (ne_eqb _ _ c.if-s-j.false))

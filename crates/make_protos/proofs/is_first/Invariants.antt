@@ -8,6 +8,3 @@ use Rattle.make_protos.proofs.is_first.Given as goal
 
 abbrev pub invariant-loop-j : goal.invariant-loop-j
 invariant-loop-j l = turns (each_turn (differs l.s l.k)) true (l.k - l.j) l.j ≡ each (differs l.s l.k) l.k
-
-abbrev pub decreases-loop-j : goal.decreases-loop-j
-decreases-loop-j l = l.k - l.j

@@ -4,7 +4,7 @@ use native.Mathlib.Omega.{arith}
 use lib.ListN.{length}
 use Rattle.layout.specs.Layout.{lay_of}
 use Rattle.base.specs.Ways.{le_no, le_yes}
-use Rattle.laid.specs.Laid.{parts_room, protos_most}
+use Rattle.laid.specs.Laid.{parts_room, protos_most, laid_of}
 use Rattle.make_protos.specs.Making.{lengths_most, nestable_below, proto_in}
 use Rattle.make_protos.proofs.proto_in.Goals as goal
 
@@ -22,7 +22,7 @@ returns-then-not-are_sound c = rw (← c.lengths_fit.ensures, c.if-not-lengths_f
 
 pub protos_used-n-requires : goal.protos_used-n-requires
 unfolding lay_of
-protos_used-n-requires c = parts_room _ c.args.w.now c.requires.laid c.requires.l_in_bounds
+protos_used-n-requires c = parts_room _ c.args.w.now (laid_of _ c.args.l.fits) c.requires.l_in_bounds
 
 pub returns-then-l-n : goal.returns-then-l-n
 unfolding proto_in lay_of
@@ -30,11 +30,11 @@ returns-then-l-n c = rw (← c.lengths_fit.ensures, c.if-not-lengths_fit.false, 
 
 pub put_proto-requires : goal.put_proto-requires
 unfolding lay_of
-put_proto-requires c = record { laid = c.requires.laid; l_in_bounds = c.requires.l_in_bounds; n_bound = (c.if-l-n.false, (lengths_most (length c.args.constants.now) (length c.args.nested.now) (sym c.lengths_fit.ensures ∙ c.if-not-lengths_fit.false)).0, (lengths_most (length c.args.constants.now) (length c.args.nested.now) (sym c.lengths_fit.ensures ∙ c.if-not-lengths_fit.false)).1); below = nestable_below _ _ _ (sym c.are_nestable.ensures ∙ c.if-not-are_nestable.false) }
+put_proto-requires c = record { l_in_bounds = c.requires.l_in_bounds; n_bound = (c.if-l-n.false, (lengths_most (length c.args.constants.now) (length c.args.nested.now) (sym c.lengths_fit.ensures ∙ c.if-not-lengths_fit.false)).0, (lengths_most (length c.args.constants.now) (length c.args.nested.now) (sym c.lengths_fit.ensures ∙ c.if-not-lengths_fit.false)).1); below = nestable_below _ _ _ (sym c.are_nestable.ensures ∙ c.if-not-are_nestable.false) }
 
 pub overflow_cast-result : goal.overflow_cast-result
 unfolding lay_of
-overflow_cast-result c = omega (arith, c.if-l-n.false, protos_most _ c.requires.laid)
+overflow_cast-result c = omega (arith, c.if-l-n.false, protos_most _ (laid_of _ c.args.l.fits))
 
 pub returns : goal.returns
 unfolding proto_in lay_of

@@ -9,13 +9,7 @@ pub loop-k-init : goal.loop-k-init
 loop-k-init c = record { rest = refl; long = refl }
 
 pub nest_one-requires : goal.nest_one-requires
-nest_one-requires c = record { laid = c.requires.laid; l_in_bounds = omega (arith, c.requires.l_in_bounds, c.loop-k.invariant.long); n_bound = (c.requires.n_bound.0, omega (arith, c.loop-k-test.true, c.requires.n_bound.1), c.loop-k-test.true); below = c.requires.below }
-
-pub overflow_add-k : goal.overflow_add-k
-overflow_add-k c = omega (arith, c.loop-k-test.true)
-
-pub loop-k-smaller : goal.loop-k-smaller
-loop-k-smaller c = omega (arith, c.loop-k-test.true)
+nest_one-requires c = record { l_in_bounds = omega (arith, c.requires.l_in_bounds, c.loop-k.invariant.long); n_bound = (c.requires.n_bound.0, omega (arith, c.loop-k-test.true, c.requires.n_bound.1), c.loop-k-test.true); below = c.requires.below }
 
 pub loop-k-preserved : goal.loop-k-preserved
 loop-k-preserved c = record { rest = run_again _ c.loop-k.invariant.rest c.loop-k-test.true c.nest_one.ensures; long = c.nest_one.auto.w ∙ c.loop-k.invariant.long }

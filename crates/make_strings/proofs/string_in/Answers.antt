@@ -9,12 +9,12 @@ unfolding string_in
 returns-then-s-gt64 c = lt_yes _ _ _ _ _ c.if-s-gt64.true refl
 
 pub found_string-requires : goal.found_string-requires
-found_string-requires c = record { laid = c.requires.laid; l_in_bounds = c.requires.l_in_bounds; i_bound = rw c.in-At.is at c.find_string.ensures.1 }
+found_string-requires c = record { l_in_bounds = c.requires.l_in_bounds; i_bound = rw c.in-Some.is at c.find_string.ensures.1 }
 
-pub returns-in-At : goal.returns-in-At
+pub returns-in-Some : goal.returns-in-Some
 unfolding string_in
-returns-in-At c = lt_no _ _ _ _ _ c.if-s-gt64.false (rw (← c.find_string.ensures.0, c.in-At.is, ← c.found_string.ensures))
+returns-in-Some c = lt_no _ _ _ _ _ c.if-s-gt64.false (rw (← c.find_string.ensures.0, c.in-Some.is, ← c.found_string.ensures))
 
-pub returns-in-Nothing : goal.returns-in-Nothing
+pub returns-in-None : goal.returns-in-None
 unfolding string_in
-returns-in-Nothing c = lt_no _ _ _ _ _ c.if-s-gt64.false (rw (← c.find_string.ensures.0, c.in-Nothing.is) c.new_string.ensures)
+returns-in-None c = lt_no _ _ _ _ _ c.if-s-gt64.false (rw (← c.find_string.ensures.0, c.in-None.is) c.new_string.ensures)

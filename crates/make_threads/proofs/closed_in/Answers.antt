@@ -6,6 +6,6 @@ pub returns-then-is_sound : goal.returns-then-is_sound
 unfolding closed_in
 returns-then-is_sound c = rw (← c.is_sound.ensures, c.if-is_sound.true) c.new_upvalue.ensures
 
-pub returns : goal.returns
+pub returns-else-is_sound : goal.returns-else-is_sound
 unfolding closed_in
-returns c = rw (← c.is_sound.ensures, c.if-is_sound.false)
+returns-else-is_sound c = rw (← c.is_sound.ensures, c.if-is_sound.false)

@@ -12,6 +12,6 @@ pub returns-then-is_table : goal.returns-then-is_table
 unfolding thread_in
 returns-then-is_table c = lt_no _ _ _ _ _ c.if-stack-gt64.false (rw (← c.is_table.ensures, c.if-is_table.true) (rw c.wide.ensures.0 at c.new_thread.ensures))
 
-pub returns : goal.returns
+pub returns-else-is_table : goal.returns-else-is_table
 unfolding thread_in
-returns c = lt_no _ _ _ _ _ c.if-stack-gt64.false (rw (← c.is_table.ensures, c.if-is_table.false))
+returns-else-is_table c = lt_no _ _ _ _ _ c.if-stack-gt64.false (rw (← c.is_table.ensures, c.if-is_table.false))

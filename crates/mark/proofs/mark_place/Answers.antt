@@ -1,7 +1,7 @@
 -- `mark::mark_place` meets its contract: a tag below 4 marks nothing, a table that is not white is left, and any other is left to the callee. Assumes nothing.
 use Rattle.base.specs.Ways.{if_eq}
 use Rattle.value.specs.Values.{value_of}
-use Rattle.laid.specs.Laid.{tables_room, sizes_laid}
+use Rattle.laid.specs.Laid.{tables_room, laid_of}
 use Rattle.mark.specs.Marking.{mark_table, mark_value, mark_value_at}
 use Rattle.mark.proofs.Laws.{plain_low}
 use Rattle.mark.proofs.mark_place.Goals as goal
@@ -10,11 +10,8 @@ pub returns-then-tag-lt4 : goal.returns-then-tag-lt4
 unfolding mark_value_at
 returns-then-tag-lt4 c = plain_low _ _ _ _ _ _ (rw c.get-tag.ensures at c.if-tag-lt4.true)
 
-pub tables_of-requires : goal.tables_of-requires
-tables_of-requires c = sizes_laid _ c.requires.laid
-
 pub shade-requires : goal.shade-requires
-shade-requires c = rw c.tables_of.ensures (tables_room _ _ c.requires.laid c.requires.l_in_bounds)
+shade-requires c = rw c.tables_of.ensures (tables_room _ _ (laid_of _ c.args.l.fits) c.requires.l_in_bounds)
 
 pub returns-then-not-is_white : goal.returns-then-not-is_white
 unfolding mark_value_at mark_value value_of if_eq mark_table

@@ -1,17 +1,14 @@
 -- `mark::mark_upvalue` meets its contract: the callees' equations joined. Assumes nothing.
-use Rattle.laid.specs.Laid.{upvalues_room, sizes_laid}
+use Rattle.laid.specs.Laid.{upvalues_room, laid_of}
 use Rattle.mark.specs.Shades.{white_in}
 use Rattle.mark.specs.Marking.{mark_upvalue}
 use Rattle.mark.proofs.mark_upvalue.Goals as goal
 
-pub upvalues_of-requires : goal.upvalues_of-requires
-upvalues_of-requires c = sizes_laid _ c.requires.laid
-
 pub shade-requires : goal.shade-requires
-shade-requires c = rw c.upvalues_of.ensures (upvalues_room _ _ c.requires.laid c.requires.l_in_bounds)
+shade-requires c = rw c.upvalues_of.ensures (upvalues_room _ _ (laid_of _ c.args.l.fits) c.requires.l_in_bounds)
 
 pub follow_upvalue-requires : goal.follow_upvalue-requires
-follow_upvalue-requires c = record { laid = c.requires.laid; l_in_bounds = c.requires.l_in_bounds; r_bound = white_in _ _ _ _ ((rw c.upvalues_of.ensures at c.shade.ensures)) c.is_white.ensures c.if-is_white.true }
+follow_upvalue-requires c = record { l_in_bounds = c.requires.l_in_bounds; r_bound = white_in _ _ _ _ ((rw c.upvalues_of.ensures at c.shade.ensures)) c.is_white.ensures c.if-is_white.true }
 
 pub returns-then-is_white : goal.returns-then-is_white
 unfolding mark_upvalue

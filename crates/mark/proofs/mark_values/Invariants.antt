@@ -1,5 +1,4 @@
 -- `mark::mark_values` meets its contract: what is left of the loop gives the whole. Assumes nothing.
-use Prim.Native.Nat.{◌-◌}
 use Rattle.layout.specs.Layout.{lay_of}
 use Rattle.mark.specs.Words.{ops}
 use Rattle.mark.specs.Marking.{mark_nth}
@@ -7,7 +6,4 @@ use Rattle.mark.proofs.Laws.{Going}
 use Rattle.mark.proofs.mark_values.Given as goal
 
 abbrev pub invariant-loop-i : goal.invariant-loop-i
-invariant-loop-i l = Going (mark_nth (ops (lay_of l.l)) (lay_of l.l) l.p) l.n l.initial.w l.w l.i
-
-abbrev pub decreases-loop-i : goal.decreases-loop-i
-decreases-loop-i l = l.n - l.i
+invariant-loop-i l = Going (mark_nth (ops (lay_of l.l.sizes)) (lay_of l.l.sizes) l.p) l.n l.initial.w l.w l.i

@@ -7,5 +7,5 @@ use Rattle.mark.proofs.other_white.Goals as goal
 pub returns-then-c-eq1 : goal.returns-then-c-eq1
 returns-then-c-eq1 c = eq_yes _ _ _ _ _ (omega arith) refl
 
-pub returns : goal.returns
-returns c = eq_no _ _ _ _ _ (λ e. omega arith) refl
+pub returns-else-c-eq1 : goal.returns-else-c-eq1
+returns-else-c-eq1 c = eq_no _ _ _ _ _ (λ e. omega arith) refl

@@ -2,7 +2,7 @@
 use mathlib.Core.Path.{◌≡◌, refl}
 use Rattle.value.specs.declared.Value.{Value}
 use Rattle.value.specs.declared.Value.TheVariants.{Nil, Boolean, Light, Number, Str, Table, Function, Userdata, Thread}
-use Rattle.laid.specs.Laid.{strings_room, tables_room, functions_room, userdata_room, threads_room, sizes_laid}
+use Rattle.laid.specs.Laid.{strings_room, tables_room, functions_room, userdata_room, threads_room, laid_of}
 use Rattle.mark.specs.Ops.{Ops}
 use Rattle.mark.specs.Marking.{value_colour}
 use Rattle.std.proofs.Common.{refl, ◌≡◌}
@@ -26,35 +26,20 @@ plain-colour O (Function r) s k0 k1 k2 k3 k4 = absurd (k2 r refl)
 plain-colour O (Userdata r) s k0 k1 k2 k3 k4 = absurd (k3 r refl)
 plain-colour O (Thread r) s k0 k1 k2 k3 k4 = absurd (k4 r refl)
 
-pub strings_of-requires : goal.strings_of-requires
-strings_of-requires c = sizes_laid _ c.requires.laid
-
 pub shade-requires : goal.shade-requires
-shade-requires c = rw c.strings_of.ensures (strings_room _ _ c.requires.laid c.requires.l_in_bounds)
-
-pub tables_of-requires : goal.tables_of-requires
-tables_of-requires c = sizes_laid _ c.requires.laid
+shade-requires c = rw c.strings_of.ensures (strings_room _ _ (laid_of _ c.args.l.fits) c.requires.l_in_bounds)
 
 pub shade-requires-in-Table : goal.shade-requires-in-Table
-shade-requires-in-Table c = rw c.tables_of.ensures (tables_room _ _ c.requires.laid c.requires.l_in_bounds)
-
-pub functions_of-requires : goal.functions_of-requires
-functions_of-requires c = sizes_laid _ c.requires.laid
+shade-requires-in-Table c = rw c.tables_of.ensures (tables_room _ _ (laid_of _ c.args.l.fits) c.requires.l_in_bounds)
 
 pub shade-requires-in-Function : goal.shade-requires-in-Function
-shade-requires-in-Function c = rw c.functions_of.ensures (functions_room _ _ c.requires.laid c.requires.l_in_bounds)
-
-pub userdata_of-requires : goal.userdata_of-requires
-userdata_of-requires c = sizes_laid _ c.requires.laid
+shade-requires-in-Function c = rw c.functions_of.ensures (functions_room _ _ (laid_of _ c.args.l.fits) c.requires.l_in_bounds)
 
 pub shade-requires-in-Userdata : goal.shade-requires-in-Userdata
-shade-requires-in-Userdata c = rw c.userdata_of.ensures (userdata_room _ _ c.requires.laid c.requires.l_in_bounds)
-
-pub threads_of-requires : goal.threads_of-requires
-threads_of-requires c = sizes_laid _ c.requires.laid
+shade-requires-in-Userdata c = rw c.userdata_of.ensures (userdata_room _ _ (laid_of _ c.args.l.fits) c.requires.l_in_bounds)
 
 pub shade-requires-in-Thread : goal.shade-requires-in-Thread
-shade-requires-in-Thread c = rw c.threads_of.ensures (threads_room _ _ c.requires.laid c.requires.l_in_bounds)
+shade-requires-in-Thread c = rw c.threads_of.ensures (threads_room _ _ (laid_of _ c.args.l.fits) c.requires.l_in_bounds)
 
 pub returns-in-Str : goal.returns-in-Str
 unfolding value_colour

@@ -2,10 +2,10 @@
 use Rattle.modes.specs.Modes.{field}
 use Rattle.modes.proofs.field.Goals as goal
 
-pub returns-in-Present : goal.returns-in-Present
+pub returns-in-Some : goal.returns-in-Some
 unfolding field
-returns-in-Present c = rw c.in-Present.is c.field_named.ensures
+returns-in-Some c = rw c.in-Some.is c.field_named.ensures
 
-pub returns-in-Absent : goal.returns-in-Absent
+pub returns-in-None : goal.returns-in-None
 unfolding field
-returns-in-Absent c = rw c.in-Absent.is
+returns-in-None c = rw c.in-None.is

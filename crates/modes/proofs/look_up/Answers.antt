@@ -16,12 +16,6 @@ node_value-requires c = record { p_in_bounds = c.requires; j_bound = omega (arit
 pub returns-then-key_equal : goal.returns-then-key_equal
 returns-then-key_equal c = c.node_value.ensures ∙ look_found _ _ _ _ _ c.loop-j.invariant c.loop-j-test.true (rw (← c.node_key.ensures, ← c.key_equal.ensures) c.if-key_equal.true)
 
-pub overflow_add-j : goal.overflow_add-j
-overflow_add-j c = omega (arith, c.node_count-n.ensures.1, c.loop-j-test.true)
-
-pub loop-j-smaller : goal.loop-j-smaller
-loop-j-smaller c = omega (arith, c.loop-j-test.true)
-
 pub loop-j-preserved : goal.loop-j-preserved
 loop-j-preserved c = look_again _ _ _ _ _ c.loop-j.invariant c.loop-j-test.true (rw (← c.node_key.ensures, ← c.key_equal.ensures) c.if-key_equal.false)
 

@@ -6,6 +6,3 @@ use Rattle.modes.proofs.look_up.Given as goal
 
 abbrev pub invariant-loop-j : goal.invariant-loop-j
 invariant-loop-j l = look_from (l.n - l.j) l.j l.p l.s l.w ≡ look_up l.p l.s l.w
-
-abbrev pub decreases-loop-j : goal.decreases-loop-j
-decreases-loop-j l = l.n - l.j

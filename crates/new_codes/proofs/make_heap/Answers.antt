@@ -1,5 +1,4 @@
 -- `new_codes::make_heap` meets its contract: each way by its test. Assumes nothing.
-use mathlib.Core.Path.{refl}
 use native.Mathlib.Omega.{arith}
 use Rattle.base.specs.Ways.{eq_yes, eq_no}
 use Rattle.new_codes.specs.NewCodes.{make_heap_on}
@@ -7,7 +6,7 @@ use Rattle.new_codes.proofs.make_heap.Goals as goal
 
 pub returns-then-sizes-ne10 : goal.returns-then-sizes-ne10
 unfolding make_heap_on
-returns-then-sizes-ne10 c = eq_no _ _ _ _ _ c.if-sizes-ne10.true refl
+returns-then-sizes-ne10 c = eq_no _ _ _ _ _ c.if-sizes-ne10.true (rw c.number.ensures)
 
 pub returns : goal.returns
 unfolding make_heap_on

@@ -1,5 +1,4 @@
 -- `new_codes::needed` meets its contract: each way by its test. Assumes nothing.
-use mathlib.Core.Path.{refl}
 use native.Mathlib.Omega.{arith}
 use Rattle.base.specs.Ways.{eq_yes, eq_no}
 use Rattle.new_codes.specs.NewCodes.{needed_on}
@@ -7,7 +6,7 @@ use Rattle.new_codes.proofs.needed.Goals as goal
 
 pub returns-then-sizes-ne10 : goal.returns-then-sizes-ne10
 unfolding needed_on
-returns-then-sizes-ne10 c = eq_no _ _ _ _ _ c.if-sizes-ne10.true refl
+returns-then-sizes-ne10 c = eq_no _ _ _ _ _ c.if-sizes-ne10.true (rw c.number.ensures)
 
 pub returns : goal.returns
 unfolding needed_on

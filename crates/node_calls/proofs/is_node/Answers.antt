@@ -10,6 +10,6 @@ pub returns-then-is_nil : goal.returns-then-is_nil
 unfolding is_node
 returns-then-is_nil c = rw (← c.is_nan_key.ensures, c.if-is_nan_key.false, ← c.is_nil.ensures, c.if-is_nil.true) c.is_nil-then-is_nil.ensures
 
-pub returns : goal.returns
+pub returns-else-is_nil : goal.returns-else-is_nil
 unfolding is_node
-returns c = rw (← c.is_nan_key.ensures, c.if-is_nan_key.false, ← c.is_nil.ensures, c.if-is_nil.false)
+returns-else-is_nil c = rw (← c.is_nan_key.ensures, c.if-is_nan_key.false, ← c.is_nil.ensures, c.if-is_nil.false)

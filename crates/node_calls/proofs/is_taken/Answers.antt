@@ -20,12 +20,6 @@ pub returns-then-is_twin : goal.returns-then-is_twin
 unfolding twin_turn
 returns-then-is_twin c = rw (sym c.is_twin.ensures ∙ c.if-is_twin.true) at (turns_step _ _ _ _ c.loop-i.invariant c.loop-i-test.true)
 
-pub overflow_add-i : goal.overflow_add-i
-overflow_add-i c = omega (arith, c.node_count-n.ensures.1, c.loop-i-test.true)
-
-pub loop-i-smaller : goal.loop-i-smaller
-loop-i-smaller c = omega (arith, c.loop-i-test.true)
-
 pub loop-i-preserved : goal.loop-i-preserved
 unfolding twin_turn
 loop-i-preserved c = rw (sym c.is_twin.ensures ∙ c.if-is_twin.false) at (turns_step _ _ _ _ c.loop-i.invariant c.loop-i-test.true)

@@ -8,6 +8,3 @@ use Rattle.node_calls.proofs.is_taken.Given as goal
 
 abbrev pub invariant-loop-i : goal.invariant-loop-i
 invariant-loop-i l = turns (twin_turn l.p l.j l.k l.w) false (l.n - l.i) l.i ≡ is_taken l.p l.j l.k l.w
-
-abbrev pub decreases-loop-i : goal.decreases-loop-i
-decreases-loop-i l = l.n - l.i

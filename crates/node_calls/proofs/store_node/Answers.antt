@@ -25,7 +25,7 @@ pub set_node-requires : goal.set_node-requires
 set_node-requires c = record { p_in_bounds = c.requires.p_in_bounds; j_bound = omega (arith, c.node_count.ensures.1, c.if-node_count-j.false) }
 
 pub barrier_back-requires : goal.barrier_back-requires
-barrier_back-requires c = record { laid = c.requires.laid; l_in_bounds = omega (arith, c.requires.l_in_bounds, c.set_node.auto.w) }
+barrier_back-requires c = record { l_in_bounds = omega (arith, c.requires.l_in_bounds, c.set_node.auto.w) }
 
 pub shape_of-w : goal.shape_of-w
 shape_of-w c = c.barrier_back.auto.w ∙ c.set_node.auto.w

@@ -1,21 +1,21 @@
 -- `node_calls::table_set_node` meets its contract: the callees' equations joined. Assumes nothing.
-use mathlib.Core.Path.{◌∙◌, sym}
+use mathlib.Core.Path.{ap}
 use native.Mathlib.Omega.{arith}
-use Rattle.entered.specs.Entered.{entered}
-use Rattle.test1.specs.Calls.{call_marked, marked_refused}
+use Rattle.layout.specs.Plans.{sizes_given}
+use Rattle.test1.specs.Calls.{call_marked, marked_err}
 use Rattle.node_calls.specs.NodeCalls.{table_set_node}
 use Rattle.node_calls.proofs.table_set_node.Goals as goal
 
 pub table_set_node_in-a-requires : goal.table_set_node_in-a-requires
-table_set_node_in-a-requires c = record { laid = entered _ _ _ (sym c.in-Fits.is ∙ c.enter.ensures.0); l_in_bounds = (rw c.in-Fits.is at c.enter.ensures.1).words }
+table_set_node_in-a-requires c = record { l_in_bounds = (rw c.in_ok-l.was at c.enter.ensures.1).words }
 
 pub unmarked-requires : goal.unmarked-requires
-unmarked-requires c = omega (arith, (rw c.in-Fits.is at c.enter.ensures.1).header, c.table_set_node_in-a.auto.w)
+unmarked-requires c = omega (arith, (rw c.in_ok-l.was at c.enter.ensures.1).header, c.table_set_node_in-a.auto.w)
 
-pub returns-in-Fits : goal.returns-in-Fits
+pub returns : goal.returns
 unfolding table_set_node call_marked
-returns-in-Fits c = rw (← c.enter.ensures.0, c.in-Fits.is, ← c.table_set_node_in-a.ensures, ← c.unmarked.ensures)
+returns c = rw (← c.enter.ensures.0, (ap sizes_given c.in_ok-l.was), ← c.table_set_node_in-a.ensures, ← c.unmarked.ensures)
 
-pub returns-in-Refused : goal.returns-in-Refused
+pub returns-in_err-l : goal.returns-in_err-l
 unfolding table_set_node
-returns-in-Refused c = marked_refused _ _ _ _ _ c.enter.ensures.0 c.in-Refused.is
+returns-in_err-l c = marked_err _ _ _ c.enter.ensures.0 c.in_err-l.was c.from_residual.ensures.1

@@ -2,10 +2,10 @@
 use Rattle.object_calls.specs.ObjectCalls.{forward_table}
 use Rattle.object_calls.proofs.forward_table.Goals as goal
 
-pub returns-in-Present : goal.returns-in-Present
+pub returns-in-Some : goal.returns-in-Some
 unfolding forward_table
-returns-in-Present c = rw c.in-Present.is c.barrier_forward.ensures
+returns-in-Some c = rw c.in-Some.is c.barrier_forward.ensures
 
-pub returns-in-Absent : goal.returns-in-Absent
+pub returns-in_default : goal.returns-in_default
 unfolding forward_table
-returns-in-Absent c = rw c.in-Absent.is
+returns-in_default c = rw c.in_default.is

@@ -2,6 +2,7 @@
 use mathlib.Core.Path.{◌∙◌, refl}
 use native.Mathlib.Omega.{arith}
 use Rattle.base.specs.Ways.{lt_no, lt_yes}
+use Rattle.laid.specs.Laid.{laid_of}
 use Rattle.run_walk.proofs.Laws.{parts_in}
 use Rattle.object_calls.specs.ObjectCalls.{set_type_meta_in}
 use Rattle.object_calls.proofs.set_type_meta_in.Goals as goal
@@ -15,10 +16,10 @@ unfolding set_type_meta_in
 returns-then-not-is_table_or c = lt_no _ _ _ _ _ (omega (arith, c.wide-i.ensures.0, c.if-i-gt8.false)) (rw (← c.is_table_or.ensures, c.if-not-is_table_or.true))
 
 pub set_type_meta-requires : goal.set_type_meta-requires
-set_type_meta-requires c = record { in_bounds = (parts_in c.requires.laid c.requires.l_in_bounds).header; k_bound = omega (arith, c.if-i-gt8.false) }
+set_type_meta-requires c = record { in_bounds = (parts_in (laid_of _ c.args.l.fits) c.requires.l_in_bounds).header; k_bound = omega (arith, c.if-i-gt8.false) }
 
 pub forward_table-requires : goal.forward_table-requires
-forward_table-requires c = record { laid = c.requires.laid; l_in_bounds = omega (arith, c.requires.l_in_bounds, c.set_type_meta.auto.w) }
+forward_table-requires c = record { l_in_bounds = omega (arith, c.requires.l_in_bounds, c.set_type_meta.auto.w) }
 
 pub shape_of-w : goal.shape_of-w
 shape_of-w c = c.forward_table.auto.w ∙ c.set_type_meta.auto.w

@@ -4,8 +4,5 @@ use Rattle.pace.specs.Pace.{steps_most}
 use Rattle.pace.proofs.Laws.{Budgeting}
 use Rattle.pace.proofs.budgeted.Given as goal
 
-abbrev pub invariant-loop-rounds : goal.invariant-loop-rounds
-invariant-loop-rounds l = Budgeting (lay_of l.l) l.kind (steps_most (lay_of l.l)) l.budget l.initial.w l.initial.b l.w l.b l.left l.rounds
-
-abbrev pub decreases-loop-rounds : goal.decreases-loop-rounds
-decreases-loop-rounds l = l.rounds
+abbrev pub invariant-loop : goal.invariant-loop
+invariant-loop l = Budgeting (lay_of l.l.sizes) l.kind (steps_most (lay_of l.l.sizes)) l.budget l.initial.w l.initial.b l.w l.b l.left l.counter

@@ -2,10 +2,10 @@
 use Rattle.pace.specs.Pace.{full_first}
 use Rattle.pace.proofs.full_first.Goals as goal
 
-pub returns-in-Through : goal.returns-in-Through
+pub returns-in-None : goal.returns-in-None
 unfolding full_first
-returns-in-Through c = rw (← c.drive.ensures, c.in-Through.is, ← c.start_cycle.ensures) c.full_second.ensures
+returns-in-None c = rw (← c.drive.ensures, c.in-None.is, ← c.start_cycle.ensures) c.full_second.ensures
 
-pub returns-in-Handed : goal.returns-in-Handed
+pub returns-in-Some : goal.returns-in-Some
 unfolding full_first
-returns-in-Handed c = rw (← c.drive.ensures, c.in-Handed.is)
+returns-in-Some c = rw (← c.drive.ensures, c.in-Some.is)

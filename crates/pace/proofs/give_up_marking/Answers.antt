@@ -2,18 +2,19 @@
 use mathlib.Core.Path.{refl}
 use native.Mathlib.Omega.{arith}
 use Rattle.base.specs.Ways.{le_yes, le_no}
+use Rattle.laid.specs.Laid.{laid_of}
 use Rattle.run_walk.proofs.Laws.{parts_in}
 use Rattle.pace.specs.Pace.{gave_up}
 use Rattle.pace.proofs.give_up_marking.Goals as goal
 
 pub get-requires : goal.get-requires
-get-requires c = omega (arith, (parts_in c.requires.laid c.requires.l_in_bounds).header)
+get-requires c = omega (arith, (parts_in (laid_of _ c.args.l.fits) c.requires.l_in_bounds).header)
 
 pub put-requires : goal.put-requires
-put-requires c = omega (arith, (parts_in c.requires.laid c.requires.l_in_bounds).header, c.clear_lists.auto.w)
+put-requires c = omega (arith, (parts_in (laid_of _ c.args.l.fits) c.requires.l_in_bounds).header, c.clear_lists.auto.w)
 
 pub write_cursor-requires : goal.write_cursor-requires
-write_cursor-requires c = omega (arith, (parts_in c.requires.laid c.requires.l_in_bounds).header, c.clear_lists.auto.w, c.put.auto.w)
+write_cursor-requires c = omega (arith, (parts_in (laid_of _ c.args.l.fits) c.requires.l_in_bounds).header, c.clear_lists.auto.w, c.put.auto.w)
 
 pub returns-then-get-le1 : goal.returns-then-get-le1
 unfolding gave_up

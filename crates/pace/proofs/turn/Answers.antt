@@ -1,14 +1,15 @@
 -- `pace::turn` meets its contract: the callees' equations joined. Assumes nothing.
 use native.Mathlib.Omega.{arith}
+use Rattle.laid.specs.Laid.{laid_of}
 use Rattle.run_walk.proofs.Laws.{parts_in}
 use Rattle.pace.specs.Pace.{turn}
 use Rattle.pace.proofs.turn.Goals as goal
 
 pub after_cost-requires : goal.after_cost-requires
-after_cost-requires c = omega (arith, (parts_in c.requires.laid c.requires.l_in_bounds).header, c.single_step.auto.w)
+after_cost-requires c = omega (arith, (parts_in (laid_of _ c.args.l.fits) c.requires.l_in_bounds).header, c.single_step.auto.w)
 
 pub hand-requires : goal.hand-requires
-hand-requires c = omega (arith, (parts_in c.requires.laid c.requires.l_in_bounds).header, c.single_step.auto.w)
+hand-requires c = omega (arith, (parts_in (laid_of _ c.args.l.fits) c.requires.l_in_bounds).header, c.single_step.auto.w)
 
 pub returns-in-Cost : goal.returns-in-Cost
 unfolding turn

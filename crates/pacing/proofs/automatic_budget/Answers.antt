@@ -9,6 +9,6 @@ pub returns-then-stepmul-eq0 : goal.returns-then-stepmul-eq0
 unfolding automatic_budget
 returns-then-stepmul-eq0 c = eq_yes _ _ _ _ _ (omega arith) refl
 
-pub returns : goal.returns
+pub returns-else-stepmul-eq0 : goal.returns-else-stepmul-eq0
 unfolding automatic_budget
-returns c = eq_no _ _ _ _ _ (λ e. omega arith) refl
+returns-else-stepmul-eq0 c = eq_no _ _ _ _ _ (λ e. omega arith) refl

@@ -42,5 +42,5 @@ overflow_cast-result c =
     subst (λ (x : ℤ). T (non_neg x) × Fits w64 (nat_abs x)) (sym (same c.args.b c.ranges.b))
     (above c.args.b c.ranges.b (test c.args.b c.ranges.b c.if-b-lt0.false))
 
-pub returns : goal.returns
-returns c = ap nat_abs (same c.args.b c.ranges.b) ∙ is c.args.b (test c.args.b c.ranges.b c.if-b-lt0.false)
+pub returns-else-b-lt0 : goal.returns-else-b-lt0
+returns-else-b-lt0 c = ap nat_abs (same c.args.b c.ranges.b) ∙ is c.args.b (test c.args.b c.ranges.b c.if-b-lt0.false)

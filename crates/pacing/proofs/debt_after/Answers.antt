@@ -9,6 +9,6 @@ pub returns-then-debt-lt9223372036854776832 : goal.returns-then-debt-lt922337203
 unfolding debt_after
 returns-then-debt-lt9223372036854776832 c = lt_yes _ _ _ _ _ (omega arith) refl
 
-pub returns : goal.returns
+pub returns-else-debt-lt9223372036854776832 : goal.returns-else-debt-lt9223372036854776832
 unfolding debt_after
-returns c = lt_no _ _ _ _ _ (omega arith) refl
+returns-else-debt-lt9223372036854776832 c = lt_no _ _ _ _ _ (omega arith) refl

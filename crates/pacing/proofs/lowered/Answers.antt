@@ -9,6 +9,6 @@ pub returns-then-estimate-gt100 : goal.returns-then-estimate-gt100
 unfolding lowered
 returns-then-estimate-gt100 c = lt_yes _ _ _ _ _ (omega arith) refl
 
-pub returns : goal.returns
+pub returns-else-estimate-gt100 : goal.returns-else-estimate-gt100
 unfolding lowered
-returns c = lt_no _ _ _ _ _ (omega arith) refl
+returns-else-estimate-gt100 c = lt_no _ _ _ _ _ (omega arith) refl

@@ -1,25 +1,15 @@
 use native.Mathlib.Omega.{arith}
 -- `part_reads::main_in` meets its contract: from what its callees promise. Assumes nothing.
 use Rattle.layout.specs.Layout.{lay_of}
-use Rattle.layout.specs.Fits.{sizes_of_lem}
 use Rattle.part_reads.proofs.main_in.Goals as goal
-
-pub stack_at-requires : goal.stack_at-requires
-stack_at-requires c = sizes_of_lem _ c.requires.sizes
 
 pub stack_in-requires : goal.stack_in-requires
 unfolding lay_of
 stack_in-requires c = (c.requires.stack, omega (arith, c.stack_at.ensures, c.requires.stack_fits))
 
-pub opens_at-requires : goal.opens_at-requires
-opens_at-requires c = sizes_of_lem _ c.requires.sizes
-
 pub open_in-requires : goal.open_in-requires
 unfolding lay_of
 open_in-requires c = record { room_bound = (c.requires.opens, omega (arith, c.opens_at.ensures, c.requires.opens_fit)); in_bounds = c.requires.header }
-
-pub frames_at-requires : goal.frames_at-requires
-frames_at-requires c = sizes_of_lem _ c.requires.sizes
 
 pub frame_in-requires : goal.frame_in-requires
 unfolding lay_of

@@ -1,13 +1,16 @@
 -- `part_reads::read_main` meets its contract: from what its callees promise. Assumes nothing.
+use mathlib.Core.Path.{ap}
+use Rattle.std.proofs.lemmas.Result.{err_from_is_err_and}
+use Rattle.layout.specs.Plans.{sizes_given}
 use Rattle.part_reads.specs.PartReads.{main_ok}
 use Rattle.test1.specs.Calls.{ask_fits, ask_refused}
 use Rattle.part_reads.proofs.read_main.Goals as goal
 
 pub main_in-requires : goal.main_in-requires
-main_in-requires c = main_ok _ _ _ (rw c.in-Fits.is at c.enter.ensures.1)
+main_in-requires c = main_ok _ _ _ (rw c.in_ok-l.was at c.enter.ensures.1)
 
-pub returns-in-Fits : goal.returns-in-Fits
-returns-in-Fits c = ask_fits _ _ _ _ _ _ c.enter.ensures.0 c.in-Fits.is c.main_in.ensures
+pub returns : goal.returns
+returns c = ask_fits _ _ _ _ _ _ c.enter.ensures.0 (ap sizes_given c.in_ok-l.was) c.main_in.ensures
 
-pub returns-in-Refused : goal.returns-in-Refused
-returns-in-Refused c = ask_refused _ _ _ _ _ c.enter.ensures.0 c.in-Refused.is
+pub returns-in_err-l : goal.returns-in_err-l
+returns-in_err-l c = let p = err_from_is_err_and c.from_residual.result c.from_residual.ensures.1 in rw (p.1, p.2) (ask_refused _ _ _ _ _ c.enter.ensures.0 (ap sizes_given c.in_err-l.was))

@@ -1,31 +1,28 @@
 -- `propagate::mark_roots` meets its contract: the callees' equations joined. Assumes nothing.
 use mathlib.Core.Path.{◌∙◌}
 use native.Mathlib.Omega.{arith}
-use Rattle.laid.specs.Laid.{gray_room_lem, sizes_laid}
+use Rattle.laid.specs.Laid.{gray_room_lem, laid_of}
 use Rattle.run_walk.proofs.Laws.{parts_in}
 use Rattle.propagate.specs.Roots.{mark_roots}
 use Rattle.propagate.proofs.mark_roots.Goals as goal
 
-pub gray_of-requires : goal.gray_of-requires
-gray_of-requires c = sizes_laid _ c.requires.laid
-
 pub push-requires : goal.push-requires
-push-requires c = rw c.gray_of.ensures (gray_room_lem _ _ c.requires.laid c.requires.l_in_bounds)
+push-requires c = rw c.gray_of.ensures (gray_room_lem _ _ (laid_of _ c.args.l.fits) c.requires.l_in_bounds)
 
 pub global-global-requires : goal.global-global-requires
-global-global-requires c = omega (arith, (parts_in c.requires.laid c.requires.l_in_bounds).header, c.push.auto.w)
+global-global-requires c = omega (arith, (parts_in (laid_of _ c.args.l.fits) c.requires.l_in_bounds).header, c.push.auto.w)
 
 pub mark_table_or-requires : goal.mark_table_or-requires
-mark_table_or-requires c = record { laid = c.requires.laid; l_in_bounds = omega (arith, c.requires.l_in_bounds, c.push.auto.w) }
+mark_table_or-requires c = record { l_in_bounds = omega (arith, c.requires.l_in_bounds, c.push.auto.w) }
 
 pub registry-registry-requires : goal.registry-registry-requires
-registry-registry-requires c = omega (arith, (parts_in c.requires.laid c.requires.l_in_bounds).header, c.push.auto.w, c.mark_table_or.auto.w)
+registry-registry-requires c = omega (arith, (parts_in (laid_of _ c.args.l.fits) c.requires.l_in_bounds).header, c.push.auto.w, c.mark_table_or.auto.w)
 
 pub mark_table_or-requires-2 : goal.mark_table_or-requires-2
-mark_table_or-requires-2 c = record { laid = c.requires.laid; l_in_bounds = omega (arith, c.requires.l_in_bounds, c.push.auto.w, c.mark_table_or.auto.w) }
+mark_table_or-requires-2 c = record { l_in_bounds = omega (arith, c.requires.l_in_bounds, c.push.auto.w, c.mark_table_or.auto.w) }
 
 pub mark_gc_roots-requires : goal.mark_gc_roots-requires
-mark_gc_roots-requires c = record { laid = c.requires.laid; l_in_bounds = omega (arith, c.requires.l_in_bounds, c.push.auto.w, c.mark_table_or.auto.w, c.mark_table_or-2.auto.w) }
+mark_gc_roots-requires c = record { l_in_bounds = omega (arith, c.requires.l_in_bounds, c.push.auto.w, c.mark_table_or.auto.w, c.mark_table_or-2.auto.w) }
 
 pub shape_of-w : goal.shape_of-w
 shape_of-w c = c.mark_gc_roots.auto.w ∙ c.mark_table_or-2.auto.w ∙ c.mark_table_or.auto.w ∙ c.push.auto.w

@@ -9,13 +9,7 @@ pub loop-k-init : goal.loop-k-init
 loop-k-init c = record { rest = refl; long = refl }
 
 pub mark_type-requires : goal.mark_type-requires
-mark_type-requires c = record { laid = c.requires.laid; l_in_bounds = omega (arith, c.requires.l_in_bounds, c.loop-k.invariant.long); k_bound = c.loop-k-test.true }
-
-pub overflow_add-k : goal.overflow_add-k
-overflow_add-k c = omega (arith, c.loop-k-test.true)
-
-pub loop-k-smaller : goal.loop-k-smaller
-loop-k-smaller c = omega (arith, c.loop-k-test.true)
+mark_type-requires c = record { l_in_bounds = omega (arith, c.requires.l_in_bounds, c.loop-k.invariant.long); k_bound = c.loop-k-test.true }
 
 pub loop-k-preserved : goal.loop-k-preserved
 loop-k-preserved c = record { rest = run_again _ c.loop-k.invariant.rest c.loop-k-test.true c.mark_type.ensures; long = c.mark_type.auto.w ∙ c.loop-k.invariant.long }

@@ -1,5 +1,4 @@
 -- `propagate::mark_types` meets its contract: what is left of the loop gives the whole. Assumes nothing.
-use Prim.Native.Nat.{◌-◌}
 use Rattle.layout.specs.Layout.{lay_of}
 use Rattle.mark.specs.Words.{ops}
 use Rattle.mark.proofs.Laws.{Going}
@@ -7,7 +6,4 @@ use Rattle.propagate.specs.Roots.{mark_type}
 use Rattle.propagate.proofs.mark_types.Given as goal
 
 abbrev pub invariant-loop-k : goal.invariant-loop-k
-invariant-loop-k l = Going (mark_type (ops (lay_of l.l))) 9 l.initial.w l.w l.k
-
-abbrev pub decreases-loop-k : goal.decreases-loop-k
-decreases-loop-k l = 9 - l.k
+invariant-loop-k l = Going (mark_type (ops (lay_of l.l.sizes))) 9 l.initial.w l.w l.k

@@ -5,13 +5,13 @@ use Rattle.propagate.specs.Propagation.{propagate_item}
 use Rattle.propagate.proofs.propagate_item.Goals as goal
 
 pub traverse_table-requires : goal.traverse_table-requires
-traverse_table-requires c = record { laid = c.requires.laid; l_in_bounds = c.requires.l_in_bounds; l_in_bounds_2 = c.requires.l_in_bounds_2 }
+traverse_table-requires c = record { l_in_bounds = c.requires.l_in_bounds; l_in_bounds_2 = c.requires.l_in_bounds_2 }
 
 pub traverse_closure-requires : goal.traverse_closure-requires
-traverse_closure-requires c = record { laid = c.requires.laid; l_in_bounds = c.requires.l_in_bounds }
+traverse_closure-requires c = record { l_in_bounds = c.requires.l_in_bounds }
 
 pub traverse_thread-requires : goal.traverse_thread-requires
-traverse_thread-requires c = record { laid = c.requires.laid; l_in_bounds = c.requires.l_in_bounds }
+traverse_thread-requires c = record { l_in_bounds = c.requires.l_in_bounds }
 
 pub shape_of-w-in-Table : goal.shape_of-w-in-Table
 shape_of-w-in-Table c = c.traverse_table.auto.w

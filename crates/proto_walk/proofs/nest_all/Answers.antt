@@ -4,4 +4,4 @@ use Rattle.proto_walk.proofs.nest_all.Goals as goal
 
 pub nest-requires : goal.nest-requires
 unfolding lay_of
-nest-requires c = record { laid = c.requires.laid; l_bound = c.requires.l_bound; n_nonzero = (c.loop-n.invariant, c.loop-n-test.true, c.if-l-n.false) }
+nest-requires c = record { l_bound = c.requires.l_bound; n_nonzero = (c.loop-n.invariant, c.loop-n-test.true, c.if-l-n.false) }

@@ -1,13 +1,16 @@
 -- `reads::read_size` meets its contract: from what its callees promise. Assumes nothing.
+use mathlib.Core.Path.{ap}
 use native.Mathlib.Omega.{arith}
+use Rattle.std.proofs.lemmas.Result.{err_from_is_err_and}
+use Rattle.layout.specs.Plans.{sizes_given}
 use Rattle.test1.specs.Calls.{ask_fits, ask_refused}
 use Rattle.reads.proofs.read_size.Goals as goal
 
 pub number_read-requires : goal.number_read-requires
-number_read-requires c = omega (arith, (rw c.in-Fits.is at c.enter.ensures.1).header)
+number_read-requires c = omega (arith, (rw c.in_ok-enter.was at c.enter.ensures.1).header)
 
-pub returns-in-Fits : goal.returns-in-Fits
-returns-in-Fits c = ask_fits _ _ _ _ _ _ c.enter.ensures.0 c.in-Fits.is (rw (← c.size_place.ensures.0) c.number_read.ensures)
+pub returns : goal.returns
+returns c = ask_fits _ _ _ _ _ _ c.enter.ensures.0 (ap sizes_given c.in_ok-enter.was) (rw (← c.size_place.ensures.0) c.number_read.ensures)
 
-pub returns-in-Refused : goal.returns-in-Refused
-returns-in-Refused c = ask_refused _ _ _ _ _ c.enter.ensures.0 c.in-Refused.is
+pub returns-in_err-enter : goal.returns-in_err-enter
+returns-in_err-enter c = let p = err_from_is_err_and c.from_residual.result c.from_residual.ensures.1 in rw (p.1, p.2) (ask_refused _ _ _ _ _ c.enter.ensures.0 (ap sizes_given c.in_err-enter.was))

@@ -1,12 +1,13 @@
 -- `run_reads::read_closure` meets its contract: from what its callees promise. Assumes nothing.
+use Rattle.std.proofs.lemmas.Result.{err_from_is_err_and}
 use Rattle.reads.specs.Objects.{object_at, object_refused}
 use Rattle.run_reads.proofs.read_closure.Goals as goal
 
 pub closure_in-requires : goal.closure_in-requires
-closure_in-requires c = (rw c.in-At.is at c.find.ensures.1).0
+closure_in-requires c = (rw c.in_ok-p.was at c.find.ensures.1).0
 
-pub returns-in-At : goal.returns-in-At
-returns-in-At c = object_at _ _ _ _ _ _ _ _ _ c.find.ensures.0 c.in-At.is c.closure_in.ensures
+pub returns : goal.returns
+returns c = object_at _ _ _ _ _ _ _ _ _ c.find.ensures.0 c.in_ok-p.was c.closure_in.ensures
 
-pub returns-in-Refused : goal.returns-in-Refused
-returns-in-Refused c = object_refused _ _ _ _ _ _ _ c.find.ensures.0 c.in-Refused.is
+pub returns-in_err-p : goal.returns-in_err-p
+returns-in_err-p c = let p = err_from_is_err_and c.from_residual.result c.from_residual.ensures.1 in rw (p.1, p.2) (object_refused _ _ _ _ _ _ _ c.find.ensures.0 c.in_err-p.was)

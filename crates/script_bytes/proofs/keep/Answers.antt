@@ -9,6 +9,6 @@ pub returns-then-n-out : goal.returns-then-n-out
 unfolding kept
 returns-then-n-out c = lt_yes _ _ _ _ _ (omega arith) refl
 
-pub returns : goal.returns
+pub returns-else-n-out : goal.returns-else-n-out
 unfolding kept
-returns c = lt_no _ _ _ _ _ (omega arith) refl
+returns-else-n-out c = lt_no _ _ _ _ _ (omega arith) refl

@@ -6,10 +6,10 @@ pub returns-in_default : goal.returns-in_default
 unfolding meta_command
 returns-in_default c = rw (← c.object_of.ensures, c.in_default.is)
 
-pub returns-in-Is : goal.returns-in-Is
+pub returns-in-Some-meta_of : goal.returns-in-Some-meta_of
 unfolding meta_command
-returns-in-Is c = rw (← c.object_of.ensures, c.in-Known.is, ← c.object_of-o.ensures, ← c.meta_of.ensures, c.in-Is.is) c.set_meta.ensures
+returns-in-Some-meta_of c = rw (← c.object_of.ensures, c.in-Some.is, ← c.object_of-o.ensures, ← c.meta_of.ensures, c.in-Some-meta_of.is) c.set_meta.ensures
 
-pub returns-in-Not : goal.returns-in-Not
+pub returns-in-None : goal.returns-in-None
 unfolding meta_command
-returns-in-Not c = rw (← c.object_of.ensures, c.in-Known.is, ← c.object_of-o.ensures, ← c.meta_of.ensures, c.in-Not.is)
+returns-in-None c = rw (← c.object_of.ensures, c.in-Some.is, ← c.object_of-o.ensures, ← c.meta_of.ensures, c.in-None.is)

@@ -3,10 +3,10 @@ use Rattle.script_calls.specs.Commands.{push_command}
 use Rattle.script_calls.specs.Laws.{serves}
 use Rattle.script_calls.proofs.push_command.Goals as goal
 
-pub returns-in-Known : goal.returns-in-Known
+pub returns-in-Some : goal.returns-in-Some
 unfolding push_command
-returns-in-Known c = rw (← c.object_of.ensures, c.in-Known.is) (serves _ _ _ _ _ _ c.push-a.ensures c.of_served.ensures)
+returns-in-Some c = rw (← c.object_of.ensures, c.in-Some.is) (serves _ _ _ _ _ _ c.push-a.ensures c.of_served.ensures)
 
-pub returns-in-Unmade : goal.returns-in-Unmade
+pub returns-in-None : goal.returns-in-None
 unfolding push_command
-returns-in-Unmade c = rw (← c.object_of.ensures, c.in-Unmade.is)
+returns-in-None c = rw (← c.object_of.ensures, c.in-None.is)

@@ -1,6 +1,6 @@
 -- `script_calls::set_meta` meets its contract: by cases of what is given. Assumes nothing.
+use Rattle.std.specs.Prelude.{Option}
 use mathlib.Core.Path.{◌≡◌, refl}
-use Rattle.value.specs.declared.TableOr.{TableOr}
 use Rattle.value.specs.declared.Value.{Value}
 use Rattle.value.specs.declared.Value.TheVariants.{Nil, Boolean, Light, Number, Str, Table, Function, Userdata, Thread}
 use Rattle.script_answers.specs.Answers.{Script, refused4}
@@ -12,7 +12,7 @@ use Rattle.value.specs.declared.UdRef.{UdRef}
 use Rattle.script_calls.proofs.set_meta.Goals as goal
 
 -- what has no metatable
-no-owner : (v : Value) (t : TableOr) (s : Script) → ((x : TableRef) → v ≡ Table x → ⊥) → ((x : UdRef) → v ≡ Userdata x → ⊥) → refused4 s ≡ set_meta v t s
+no-owner : (v : Value) (t : Option TableRef) (s : Script) → ((x : TableRef) → v ≡ Table x → ⊥) → ((x : UdRef) → v ≡ Userdata x → ⊥) → refused4 s ≡ set_meta v t s
 unfolding set_meta
 no-owner Nil t s _ _ = refl
 no-owner (Boolean x) t s _ _ = refl

@@ -2,10 +2,10 @@
 use Rattle.script_calls.specs.Commands.{setn_command}
 use Rattle.script_calls.proofs.setn_command.Goals as goal
 
-pub returns-in-Is : goal.returns-in-Is
+pub returns-in-Some : goal.returns-in-Some
 unfolding setn_command
-returns-in-Is c = rw (← c.object_of-o.ensures, ← c.table_of.ensures, c.in-Is.is) c.set_node.ensures
+returns-in-Some c = rw (← c.object_of-o.ensures, ← c.table_of.ensures, c.in-Some.is) c.set_node.ensures
 
-pub returns-in-Not : goal.returns-in-Not
+pub returns-in-None : goal.returns-in-None
 unfolding setn_command
-returns-in-Not c = rw (← c.object_of-o.ensures, ← c.table_of.ensures, c.in-Not.is)
+returns-in-None c = rw (← c.object_of-o.ensures, ← c.table_of.ensures, c.in-None.is)

@@ -1,29 +1,29 @@
 -- `script_collect::ended` meets its contract: by cases of the answer. Assumes nothing.
-use mathlib.Core.Path.{◌≡◌, refl}
+use Rattle.std.specs.Prelude.{Ok}
+use Rattle.std.proofs.Common.{◌≡◌, refl}
+use Rattle.std.proofs.lemmas.Result.{err_from_is_err_and}
 use Rattle.base.specs.Heap.{Heap}
 use Rattle.accounts.specs.declared.Answer.{Answer}
-use Rattle.accounts.specs.declared.Answer.TheVariants.{Stepped, Unfinished, Ended, Passed, Handed, Busy, Failed, Refused}
+use Rattle.accounts.specs.declared.Answer.TheVariants.{Stepped, Unfinished, Ended, Passed, Handed, Busy, Failed}
 use Rattle.script_print.specs.declared.Counts.{Counts}
 use Rattle.script_print.specs.declared.Outcome.TheVariants as outcome
 use Rattle.script_collect.specs.Collects.{counts_in, lost, ended}
-use Rattle.std.proofs.Common.{refl, ◌≡◌, ℕ}
 use Rattle.script_collect.proofs.ended.Goals as goal
 
 -- an answer that refuses nothing
-not-refused : (before : Counts) (h : Heap) (a : Answer) → ((x : ℕ) → a ≡ Refused x → ⊥) → outcome.Freed (lost before (counts_in h)) ≡ ended before h a
+served : (before : Counts) (h : Heap) (a : Answer) → Ok (outcome.Freed (lost before (counts_in h))) ≡ ended before h (Ok a)
 unfolding ended
-not-refused before h (Stepped c) _ = refl
-not-refused before h Unfinished _ = refl
-not-refused before h Ended _ = refl
-not-refused before h Passed _ = refl
-not-refused before h (Handed r v) _ = refl
-not-refused before h Busy _ = refl
-not-refused before h Failed _ = refl
-not-refused before h (Refused n) k0 = absurd (k0 n refl)
+served before h (Stepped c) = refl
+served before h Unfinished = refl
+served before h Ended = refl
+served before h Passed = refl
+served before h (Handed r v) = refl
+served before h Busy = refl
+served before h Failed = refl
 
-pub returns-in-Refused : goal.returns-in-Refused
+pub returns-in_err-a : goal.returns-in_err-a
 unfolding ended
-returns-in-Refused c = rw c.in-Refused.is
+returns-in_err-a c = let p = err_from_is_err_and c.from_residual.result c.from_residual.ensures.1 in rw (c.in_err-a.was, p.1, p.2)
 
-pub returns-in_default : goal.returns-in_default
-returns-in_default c = rw (c.lost.ensures, c.counts_in.ensures) (not-refused _ _ _ c.in_default.not-Refused)
+pub returns : goal.returns
+returns c = rw (c.lost.ensures, c.counts_in.ensures, c.in_ok-a.was) (served _ _ _)

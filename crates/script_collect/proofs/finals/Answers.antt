@@ -1,21 +1,25 @@
 -- `script_collect::finals` meets its contract: what is left of the loop gives the whole. Assumes nothing.
-use mathlib.Core.Path.{◌≡◌, refl, ◌∙◌}
-use mathlib.Core.List.{List}
-use Prim.Native.Nat.{ℕ, zero, suc}
+use Rattle.std.specs.Prelude.{Ok, Err, Result}
+use Rattle.std.proofs.Common.{rules, ◌≡◌, refl, ◌∙◌, List, ℕ, zero, suc, ◌-◌, ◌+◌}
+use native.Mathlib.Omega.{arith}
 use Rattle.base.specs.Heap.{Heap}
+use Rattle.base.specs.declared.Refusal.{Refusal}
+use Rattle.value.specs.declared.UdRef.{UdRef}
+use Rattle.value.specs.declared.Value.{Value}
 use Rattle.accounts.specs.declared.Answer.{Answer}
-use Rattle.accounts.specs.declared.Answer.TheVariants.{Stepped, Unfinished, Ended, Passed, Handed, Busy, Failed, Refused}
+use Rattle.accounts.specs.declared.Answer.TheVariants.{Stepped, Unfinished, Ended, Passed, Handed, Busy, Failed}
 use Rattle.script_bytes.specs.Bytes.{said}
 use Rattle.script_print.specs.Texts.{final_lines}
 use Rattle.script_collect.specs.Collects.{finals, handing}
 use Rattle.script_collect.specs.Laws.{handing_again, handing_end}
-use Rattle.std.proofs.Common.{refl, ◌≡◌, ℕ}
-use Rattle.value.specs.declared.UdRef.{UdRef}
-use Rattle.value.specs.declared.Value.{Value}
 use Rattle.script_collect.proofs.finals.Goals as goal
 
+-- an answer told by its parts
+told : {a : Result Answer Refusal} {x y : Answer} → a ≡ Ok x → x ≡ y → a ≡ Ok y
+told p q = rw (p, q)
+
 -- an answer that hands nothing out
-stopped : (n : ℕ) (a : Answer) (h : Heap) (p : ℕ × List ℕ) → ((x : UdRef) → (y : Value) → a ≡ Handed x y → ⊥) → ((a, h), p) ≡ handing n a h p
+stopped : (n : ℕ) (a : Answer) (h : Heap) (p : ℕ × List ℕ) → ((x : UdRef) → (y : Value) → a ≡ Handed x y → ⊥) → ((Ok a, h), p) ≡ handing n (Ok a) h p
 unfolding handing finals said final_lines
 stopped zero a h p _ = refl
 stopped (suc n) (Stepped c) h p _ = refl
@@ -25,34 +29,23 @@ stopped (suc n) Passed h p _ = refl
 stopped (suc n) (Handed r v) h p k0 = absurd (k0 r v refl)
 stopped (suc n) Busy h p _ = refl
 stopped (suc n) Failed h p _ = refl
-stopped (suc n) (Refused x) h p _ = refl
 
-pub loop-left-init : goal.loop-left-init
-loop-left-init c = (refl, refl, refl, refl)
-
-pub shape_of-w-in_default : goal.shape_of-w-in_default
-shape_of-w-in_default c = c.loop-left.invariant.1
-
-pub shape_of-b-in_default : goal.shape_of-b-in_default
-shape_of-b-in_default c = c.loop-left.invariant.2
-
-pub shape_of-out-in_default : goal.shape_of-out-in_default
-shape_of-out-in_default c = c.loop-left.invariant.3
+-- an answer that refuses
+refused : (n : ℕ) (x : Refusal) (h : Heap) (p : ℕ × List ℕ) → ((Err x, h), p) ≡ handing n (Err x) h p
+unfolding handing finals said final_lines
+refused zero x h p = refl
+refused (suc n) x h p = refl
 
 pub returns-in_default : goal.returns-in_default
-returns-in_default c = stopped _ _ _ _ c.in_default.not-Handed ∙ c.loop-left.invariant.0
+returns-in_default c = rw c.in_default.is (stopped _ c.in_default.field-0 _ _ (λ x y e. search (rules, e))) ∙ c.loop.invariant
 
-pub loop-left-preserved : goal.loop-left-preserved
-loop-left-preserved c = (handing_again _ _ _ _ c.loop-left.invariant.0 _ _ _ _ _ c.loop-left-test.true c.in-Handed.is c.final_line-next.ensures c.finish-a.ensures, c.finish-a.auto.w ∙ c.loop-left.invariant.1, c.finish-a.auto.b ∙ c.loop-left.invariant.2, c.final_line-next.auto.out ∙ c.loop-left.invariant.3)
+pub returns-in_default-2 : goal.returns-in_default-2
+returns-in_default-2 c = rw c.in_default.is (refused _ _ _ _) ∙ c.loop.invariant
 
-pub shape_of-w : goal.shape_of-w
-shape_of-w c = c.loop-left.invariant.1
-
-pub shape_of-b : goal.shape_of-b
-shape_of-b c = c.loop-left.invariant.2
-
-pub shape_of-out : goal.shape_of-out
-shape_of-out c = c.loop-left.invariant.3
+pub loop-preserved : goal.loop-preserved
+loop-preserved c =
+    let e : c.args.most - (c.loop.counter + 1) ≡ c.args.most - c.loop.counter - 1 = omega arith in
+    rw e (handing_again _ _ _ _ c.loop.invariant _ _ _ _ _ (omega arith) (told c.in-Ok-Handed.is (rw c.in-Ok-Handed.is at c.in-Ok-Handed.field-0-is)) c.final_line-next.ensures c.finish-a.ensures)
 
 pub returns : goal.returns
-returns c = handing_end _ _ _ _ c.loop-left.invariant.0 c.loop-left-test.false
+returns c = handing_end _ _ _ _ c.loop.invariant (omega arith)

@@ -4,4 +4,4 @@ use Rattle.script_collect.proofs.lost.Goals as goal
 
 pub returns : goal.returns
 unfolding lost
-returns c = rw (c.sub_sat.ensures, c.sub_sat-2.ensures, c.sub_sat-3.ensures, c.sub_sat-4.ensures, c.sub_sat-5.ensures, c.sub_sat-6.ensures)
+returns c = rw (c.saturating_sub.ensures, c.saturating_sub-2.ensures, c.saturating_sub-3.ensures, c.saturating_sub-4.ensures, c.saturating_sub-5.ensures, c.saturating_sub-6.ensures)

@@ -5,14 +5,14 @@ use Rattle.base.specs.Ways.{lt_yes, lt_no, eq_yes, eq_no}
 use Rattle.script_made.specs.Objects.{object_of}
 use Rattle.script_made.proofs.object_of.Goals as goal
 
-pub returns-then-k-eq0 : goal.returns-then-k-eq0
+pub returns-then-n-eq0 : goal.returns-then-n-eq0
 unfolding object_of
-returns-then-k-eq0 c = eq_yes _ _ _ _ _ (omega arith) refl
+returns-then-n-eq0 c = eq_yes _ _ _ _ _ (omega arith) refl
 
 pub returns-then-count_of-n : goal.returns-then-count_of-n
 unfolding object_of
 returns-then-count_of-n c = eq_no _ _ _ _ _ (λ e. omega arith) (lt_yes _ _ _ _ _ (omega arith) refl)
 
-pub returns : goal.returns
+pub returns-else-count_of-n : goal.returns-else-count_of-n
 unfolding object_of
-returns c = eq_no _ _ _ _ _ (λ e. omega arith) (lt_no _ _ _ _ _ (omega arith) (rw (c.read_value.ensures, c.wide-n.ensures.0)))
+returns-else-count_of-n c = eq_no _ _ _ _ _ (λ e. omega arith) (lt_no _ _ _ _ _ (omega arith) (rw (c.read_value.ensures, c.wide-n.ensures.0)))

@@ -3,26 +3,26 @@ use Rattle.script_bytes.specs.Bytes.{said}
 use Rattle.script_print.specs.Texts.{outcome_text}
 use Rattle.script_print.proofs.outcome_line.Goals as goal
 
-pub returns-in-Quiet : goal.returns-in-Quiet
+pub returns-in-Ok-Quiet : goal.returns-in-Ok-Quiet
 unfolding outcome_text said
-returns-in-Quiet c = rw c.in-Quiet.is
+returns-in-Ok-Quiet c = rw (c.in-Ok-Quiet.is, rw c.in-Ok-Quiet.is at c.in-Ok-Quiet.field-0-is)
 
-pub returns-in-Str : goal.returns-in-Str
+pub returns-in-Ok-Str : goal.returns-in-Ok-Str
 unfolding outcome_text
-returns-in-Str c = rw c.in-Str.is c.object_line.ensures
+returns-in-Ok-Str c = rw (c.in-Ok-Str.is, rw c.in-Ok-Str.is at c.in-Ok-Str.field-0-is) c.object_line.ensures
 
-pub returns-in-Table : goal.returns-in-Table
+pub returns-in-Ok-Table : goal.returns-in-Ok-Table
 unfolding outcome_text
-returns-in-Table c = rw c.in-Table.is c.object_line-in-Table.ensures
+returns-in-Ok-Table c = rw (c.in-Ok-Table.is, rw c.in-Ok-Table.is at c.in-Ok-Table.field-0-is) c.object_line-in-Ok-Table.ensures
 
-pub returns-in-Userdata : goal.returns-in-Userdata
+pub returns-in-Ok-Userdata : goal.returns-in-Ok-Userdata
 unfolding outcome_text
-returns-in-Userdata c = rw c.in-Userdata.is c.object_line-in-Userdata.ensures
+returns-in-Ok-Userdata c = rw (c.in-Ok-Userdata.is, rw c.in-Ok-Userdata.is at c.in-Ok-Userdata.field-0-is) c.object_line-in-Ok-Userdata.ensures
 
-pub returns-in-Freed : goal.returns-in-Freed
+pub returns-in-Ok-Freed : goal.returns-in-Ok-Freed
 unfolding outcome_text
-returns-in-Freed c = rw c.in-Freed.is c.freed_line.ensures
+returns-in-Ok-Freed c = rw (c.in-Ok-Freed.is, rw c.in-Ok-Freed.is at c.in-Ok-Freed.field-0-is) c.freed_line.ensures
 
-pub returns-in-Refused : goal.returns-in-Refused
+pub returns-in-Err : goal.returns-in-Err
 unfolding outcome_text
-returns-in-Refused c = rw c.in-Refused.is c.refused_line.ensures
+returns-in-Err c = rw (c.in-Err.is, ← c.number.ensures) c.refused_line.ensures

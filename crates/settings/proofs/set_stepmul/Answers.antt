@@ -1,16 +1,18 @@
 -- `settings::set_stepmul` meets its contract: the callees' equations joined. Assumes nothing.
+use mathlib.Core.Path.{ap}
 use native.Mathlib.Omega.{arith}
-use Rattle.test1.specs.Calls.{call_refused, call_words}
+use Rattle.layout.specs.Plans.{sizes_given}
+use Rattle.test1.specs.Calls.{call_err, call_words}
 use Rattle.settings.specs.Settings.{set_stepmul}
 use Rattle.settings.proofs.set_stepmul.Goals as goal
 
 pub set_word-requires : goal.set_word-requires
-set_word-requires c = omega (arith, (rw c.in-Fits.is at c.enter.ensures.1).header)
+set_word-requires c = omega (arith, (rw c.in_ok-enter.was at c.enter.ensures.1).header)
 
-pub returns-in-Fits : goal.returns-in-Fits
+pub returns : goal.returns
 unfolding set_stepmul
-returns-in-Fits c = call_words _ _ _ _ _ _ _ c.enter.ensures.0 c.in-Fits.is c.set_word.ensures
+returns c = call_words _ _ _ _ _ _ _ c.enter.ensures.0 (ap sizes_given c.in_ok-enter.was) c.set_word.ensures
 
-pub returns-in-Refused : goal.returns-in-Refused
+pub returns-in_err-enter : goal.returns-in_err-enter
 unfolding set_stepmul
-returns-in-Refused c = call_refused _ _ _ _ _ c.enter.ensures.0 c.in-Refused.is
+returns-in_err-enter c = call_err _ _ _ c.enter.ensures.0 c.in_err-enter.was c.from_residual.ensures.1

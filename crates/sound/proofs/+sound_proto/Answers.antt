@@ -1,6 +1,6 @@
 -- `sound::sound_proto` meets its contract: the number falls, the turns from here on answer what all do, and what was seen is sound. Assumes nothing.
 use Rattle.std.proofs.Common.{arith, ◌∙◌, refl, sym, length-set}
-use Rattle.laid.specs.Laid.{parts_room}
+use Rattle.laid.specs.Laid.{parts_room, laid_of}
 use Rattle.making.specs.Turns.{turns_start, turns_end, each_again, each_stop}
 use Rattle.sound.proofs.Laws.{added_none, child_below, child_skipped, constants_unsound, proto_looked, known_seen, known_child, grown_same, grown_no, grown_all, added_more}
 use Rattle.sound.proofs.+sound_proto.Goals.{then-q-n+else-not-sound_proto, else-q-n}
@@ -13,25 +13,22 @@ pub returns-then-not-constants_sound : goal.returns-then-not-constants_sound
 returns-then-not-constants_sound t c = (constants_unsound _ _ _ (sym c.constants_sound.ensures ∙ c.if-not-constants_sound.true), grown_no _ _ _ _)
 
 pub proto_nested-m-requires : goal.proto_nested-m-requires
-proto_nested-m-requires t c = parts_room _ c.args.w.now c.requires.laid c.requires.l_in_bounds
+proto_nested-m-requires t c = parts_room _ c.args.w.now (laid_of _ c.args.l.fits) c.requires.l_in_bounds
 
 pub loop-j-init : goal.loop-j-init
 loop-j-init t c = record { rest = turns_start _ _ _ _ refl; new = added_none _ _ _; full = refl }
 
 pub proto_child-q-requires-clause-parts : goal.proto_child-q-requires-clause-parts
-proto_child-q-requires-clause-parts t c = parts_room _ c.args.w.now c.requires.laid c.requires.l_in_bounds
+proto_child-q-requires-clause-parts t c = parts_room _ c.args.w.now (laid_of _ c.args.l.fits) c.requires.l_in_bounds
 
 pub sound_proto-requires : goal.sound_proto-requires
 sound_proto-requires t c = (
   rw (← c.decreases) c.if-q-n.true,
   (
-    c.requires.laid,
+    c.requires.l_in_bounds,
     (
-      c.requires.l_in_bounds,
-      (
-        (omega (arith, c.requires.n_bound.0, c.if-q-n.true), omega (arith, c.requires.n_bound.1, rw length-set at c.loop-j.invariant.full)),
-        known_child _ _ _ _ _ _ c.requires.known c.loop-j.invariant.new c.if-q-n.true,
-      ),
+      (omega (arith, c.requires.n_bound.0, c.if-q-n.true), omega (arith, c.requires.n_bound.1, rw length-set at c.loop-j.invariant.full)),
+      known_child _ _ _ _ _ _ c.requires.known c.loop-j.invariant.new c.if-q-n.true,
     ),
   ),
 )

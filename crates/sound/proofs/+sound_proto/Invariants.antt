@@ -8,7 +8,7 @@ abbrev pub decreases-sound_proto : goal.decreases-sound_proto
 decreases-sound_proto l = l.n
 
 abbrev pub invariant-loop-j : goal.invariant-loop-j
-invariant-loop-j l = Looking (lay_of l.l) l.w l.n l.m l.initial.seen l.seen l.j
+invariant-loop-j l = Looking (lay_of l.l.sizes) l.w l.n l.m l.initial.seen l.seen l.j
 
 abbrev pub decreases-loop-j : goal.decreases-loop-j
 decreases-loop-j l = l.m - l.j

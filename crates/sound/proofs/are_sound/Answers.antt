@@ -18,17 +18,11 @@ pub read_value-requires : goal.read_value-requires
 read_value-requires c = omega (arith, c.loop-k-test.true, c.requires.n_in_bounds)
 
 pub is_sound-requires : goal.is_sound-requires
-is_sound-requires c = record { laid = c.requires.laid; l_in_bounds = c.requires.l_in_bounds }
+is_sound-requires c = record { l_in_bounds = c.requires.l_in_bounds }
 
 pub returns-then-not-is_sound : goal.returns-then-not-is_sound
 unfolding are_sound sound_at
 returns-then-not-is_sound c = each_stop _ _ _ c.loop-k.invariant c.loop-k-test.true (rw (← c.read_value.ensures) (sym c.is_sound.ensures ∙ c.if-not-is_sound.true))
-
-pub overflow_add-k : goal.overflow_add-k
-overflow_add-k c = omega (arith, c.loop-k-test.true)
-
-pub loop-k-smaller : goal.loop-k-smaller
-loop-k-smaller c = omega (arith, c.loop-k-test.true)
 
 pub loop-k-preserved : goal.loop-k-preserved
 unfolding sound_at

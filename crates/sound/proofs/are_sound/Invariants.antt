@@ -8,7 +8,4 @@ use Rattle.sound.specs.Sound.{sound_at}
 use Rattle.sound.proofs.are_sound.Given as goal
 
 abbrev pub invariant-loop-k : goal.invariant-loop-k
-invariant-loop-k l = turns (each_turn (sound_at (lay_of l.l) l.s l.p l.w)) true (l.n - l.k) l.k ≡ each (sound_at (lay_of l.l) l.s l.p l.w) l.n
-
-abbrev pub decreases-loop-k : goal.decreases-loop-k
-decreases-loop-k l = l.n - l.k
+invariant-loop-k l = turns (each_turn (sound_at (lay_of l.l.sizes) l.s l.p l.w)) true (l.n - l.k) l.k ≡ each (sound_at (lay_of l.l.sizes) l.s l.p l.w) l.n

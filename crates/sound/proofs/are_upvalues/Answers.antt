@@ -15,17 +15,11 @@ pub read_upval-requires : goal.read_upval-requires
 read_upval-requires c = omega (arith, c.loop-k-test.true, c.requires.n_in_bounds)
 
 pub is_upvalue-requires : goal.is_upvalue-requires
-is_upvalue-requires c = record { laid = c.requires.laid; l_in_bounds = c.requires.l_in_bounds }
+is_upvalue-requires c = record { l_in_bounds = c.requires.l_in_bounds }
 
 pub returns-then-not-is_upvalue : goal.returns-then-not-is_upvalue
 unfolding are_upvalues upvalue_at
 returns-then-not-is_upvalue c = each_stop _ _ _ c.loop-k.invariant c.loop-k-test.true (sym (rw c.read_upval.ensures at c.is_upvalue.ensures) ∙ c.if-not-is_upvalue.true)
-
-pub overflow_add-k : goal.overflow_add-k
-overflow_add-k c = omega (arith, c.loop-k-test.true)
-
-pub loop-k-smaller : goal.loop-k-smaller
-loop-k-smaller c = omega (arith, c.loop-k-test.true)
 
 pub loop-k-preserved : goal.loop-k-preserved
 unfolding upvalue_at

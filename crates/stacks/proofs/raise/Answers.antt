@@ -17,12 +17,6 @@ overflow_add-s c = omega arith
 pub write_value-requires : goal.write_value-requires
 write_value-requires c = omega (arith, c.requires.holds.fits, c.requires.n_le_room, c.loop-i.invariant.long, c.loop-i-test.true)
 
-pub overflow_add-i : goal.overflow_add-i
-overflow_add-i c = omega arith
-
-pub loop-i-smaller : goal.loop-i-smaller
-loop-i-smaller c = omega (arith, c.loop-i-test.true)
-
 pub loop-i-preserved : goal.loop-i-preserved
 loop-i-preserved c = record { rest = run_again _ c.loop-i.invariant.rest c.loop-i-test.true c.write_value.ensures; long = c.write_value.auto.w ∙ c.loop-i.invariant.long }
 

@@ -5,6 +5,3 @@ use Rattle.stacks.proofs.raise.Given as goal
 
 abbrev pub invariant-loop-i : goal.invariant-loop-i
 invariant-loop-i l = Filling l.initial.w l.s l.n l.w l.i
-
-abbrev pub decreases-loop-i : goal.decreases-loop-i
-decreases-loop-i l = l.n - l.i

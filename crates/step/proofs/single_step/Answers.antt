@@ -2,12 +2,13 @@
 use mathlib.Core.Path.{sym, ◌∙◌}
 use native.Mathlib.Omega.{arith}
 use Rattle.base.specs.Ways.{eq_yes, eq_no}
+use Rattle.laid.specs.Laid.{laid_of}
 use Rattle.run_walk.proofs.Laws.{parts_in}
 use Rattle.step.specs.Step.{single_step}
 use Rattle.step.proofs.single_step.Goals as goal
 
 pub get-phase-requires : goal.get-phase-requires
-get-phase-requires c = omega (arith, (parts_in c.requires.laid c.requires.l_in_bounds).header)
+get-phase-requires c = omega (arith, (parts_in (laid_of _ c.args.l.fits) c.requires.l_in_bounds).header)
 
 pub returns-in-0 : goal.returns-in-0
 unfolding single_step

@@ -1,21 +1,22 @@
 -- `steps::gc_step_auto` meets its contract: the callees' equations joined. Assumes nothing.
-use mathlib.Core.Path.{sym, ◌∙◌}
+use mathlib.Core.Path.{ap}
 use native.Mathlib.Omega.{arith}
-use Rattle.entered.specs.Entered.{entered}
+use Rattle.std.proofs.lemmas.Result.{err_from_is_err_and}
+use Rattle.layout.specs.Plans.{sizes_given}
 use Rattle.test1.specs.Calls.{call_marked, marked_refused}
 use Rattle.steps.specs.Steps.{gc_step_auto}
 use Rattle.steps.proofs.gc_step_auto.Goals as goal
 
 pub auto_in-a-requires : goal.auto_in-a-requires
-auto_in-a-requires c = record { laid = entered _ _ _ (sym c.in-Fits.is ∙ c.enter.ensures.0); l_in_bounds = (rw c.in-Fits.is at c.enter.ensures.1).words; l_in_bounds_2 = (rw c.in-Fits.is at c.enter.ensures.1).bytes }
+auto_in-a-requires c = record { l_in_bounds = (rw c.in_ok-l.was at c.enter.ensures.1).words; l_in_bounds_2 = (rw c.in_ok-l.was at c.enter.ensures.1).bytes }
 
 pub unmarked-requires : goal.unmarked-requires
-unmarked-requires c = omega (arith, (rw c.in-Fits.is at c.enter.ensures.1).header, c.auto_in-a.auto.w)
+unmarked-requires c = omega (arith, (rw c.in_ok-l.was at c.enter.ensures.1).header, c.auto_in-a.auto.w)
 
-pub returns-in-Fits : goal.returns-in-Fits
+pub returns : goal.returns
 unfolding gc_step_auto call_marked
-returns-in-Fits c = rw (← c.enter.ensures.0, c.in-Fits.is, ← c.auto_in-a.ensures, ← c.unmarked.ensures)
+returns c = rw (← c.enter.ensures.0, (ap sizes_given c.in_ok-l.was), ← c.auto_in-a.ensures, ← c.unmarked.ensures)
 
-pub returns-in-Refused : goal.returns-in-Refused
+pub returns-in_err-l : goal.returns-in_err-l
 unfolding gc_step_auto
-returns-in-Refused c = marked_refused _ _ _ _ _ c.enter.ensures.0 c.in-Refused.is
+returns-in_err-l c = let p = err_from_is_err_and c.from_residual.result c.from_residual.ensures.1 in rw (p.1, p.2) (marked_refused _ _ _ _ _ c.enter.ensures.0 (ap sizes_given c.in_err-l.was))

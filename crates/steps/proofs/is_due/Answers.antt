@@ -2,10 +2,10 @@
 use Rattle.steps.specs.Steps.{is_due}
 use Rattle.steps.proofs.is_due.Goals as goal
 
-pub returns-then-is_out : goal.returns-then-is_out
+pub returns-else-not-is_out : goal.returns-else-not-is_out
 unfolding is_due
-returns-then-is_out c = rw (← c.is_out.ensures, c.if-is_out.true)
+returns-else-not-is_out c = rw (← c.is_out.ensures, c.if-not-is_out.false)
 
-pub returns : goal.returns
+pub returns-then-not-is_out : goal.returns-then-not-is_out
 unfolding is_due
-returns c = rw (← c.is_out.ensures, c.if-is_out.false, ← c.get64.ensures, ← c.get.ensures)
+returns-then-not-is_out c = rw (← c.is_out.ensures, c.if-not-is_out.true, ← c.get64.ensures, ← c.get.ensures)

@@ -3,11 +3,12 @@ use mathlib.Core.Path.{refl}
 use native.Mathlib.Omega.{arith}
 use Rattle.run_walk.proofs.Laws.{parts_in}
 use Rattle.base.specs.Ways.{eq_yes, eq_no}
+use Rattle.laid.specs.Laid.{laid_of}
 use Rattle.steps.specs.Steps.{resumed}
 use Rattle.steps.proofs.resume.Goals as goal
 
 pub limited-requires : goal.limited-requires
-limited-requires c = omega (arith, (parts_in c.requires.laid c.requires.l_in_bounds).header, c.steps_on-a.auto.w)
+limited-requires c = omega (arith, (parts_in (laid_of _ c.args.l.fits) c.requires.l_in_bounds).header, c.steps_on-a.auto.w)
 
 pub returns-in-1 : goal.returns-in-1
 unfolding resumed

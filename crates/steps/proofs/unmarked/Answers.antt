@@ -6,5 +6,5 @@ use Rattle.steps.proofs.unmarked.Goals as goal
 pub returns-then-get-eq0 : goal.returns-then-get-eq0
 returns-then-get-eq0 c = eq_yes _ _ _ _ _ (rw c.get.ensures at c.if-get-eq0.true) refl
 
-pub returns : goal.returns
-returns c = eq_no _ _ _ _ _ (rw c.get.ensures at c.if-get-eq0.false) refl
+pub returns-else-get-eq0 : goal.returns-else-get-eq0
+returns-else-get-eq0 c = eq_no _ _ _ _ _ (rw c.get.ensures at c.if-get-eq0.false) refl

@@ -1,24 +1,8 @@
 -- `sweep_step::arena_at` meets its contract: each way by its test. Assumes nothing.
 use native.Mathlib.Omega.{arith}
-use Rattle.laid.specs.Laid.{sizes_laid}
 use Rattle.base.specs.Ways.{eq_yes, eq_no}
 use Rattle.sweep_step.specs.Sweeping.{arena_at}
 use Rattle.sweep_step.proofs.arena_at.Goals as goal
-
-pub tables_of-requires : goal.tables_of-requires
-tables_of-requires c = sizes_laid _ c.requires
-
-pub functions_of-requires : goal.functions_of-requires
-functions_of-requires c = sizes_laid _ c.requires
-
-pub upvalues_of-requires : goal.upvalues_of-requires
-upvalues_of-requires c = sizes_laid _ c.requires
-
-pub userdata_of-requires : goal.userdata_of-requires
-userdata_of-requires c = sizes_laid _ c.requires
-
-pub threads_of-requires : goal.threads_of-requires
-threads_of-requires c = sizes_laid _ c.requires
 
 pub returns-in-0 : goal.returns-in-0
 unfolding arena_at

@@ -7,10 +7,10 @@ pub returns-then-c-lt4 : goal.returns-then-c-lt4
 unfolding others_moved
 returns-then-c-lt4 c = rw c.if-s.true (lt_yes _ _ _ _ _ c.if-c-lt4.true (rw c.next_arena.ensures at c.write_cursor.ensures))
 
-pub returns-then-s : goal.returns-then-s
+pub returns-else-c-lt4 : goal.returns-else-c-lt4
 unfolding others_moved
-returns-then-s c = rw c.if-s.true (lt_no _ _ _ _ _ c.if-c-lt4.false c.put.ensures)
+returns-else-c-lt4 c = rw c.if-s.true (lt_no _ _ _ _ _ c.if-c-lt4.false c.put.ensures)
 
-pub returns : goal.returns
+pub returns-else-s : goal.returns-else-s
 unfolding others_moved
-returns c = rw c.if-s.false (rw c.advance.ensures at c.write_cursor-2.ensures)
+returns-else-s c = rw c.if-s.false (rw c.advance.ensures at c.write_cursor-else-s.ensures)

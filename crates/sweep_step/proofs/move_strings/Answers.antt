@@ -6,6 +6,6 @@ pub returns-then-s : goal.returns-then-s
 unfolding strings_moved
 returns-then-s c = rw (c.if-s.true, ← (rw c.start.ensures at c.write_cursor.ensures)) c.put.ensures
 
-pub returns : goal.returns
+pub returns-else-s : goal.returns-else-s
 unfolding strings_moved
-returns c = rw c.if-s.false (rw c.advance.ensures at c.write_cursor-2.ensures)
+returns-else-s c = rw c.if-s.false (rw c.advance.ensures at c.write_cursor-else-s.ensures)

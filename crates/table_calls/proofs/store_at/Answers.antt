@@ -17,7 +17,7 @@ pub set_array_value-requires : goal.set_array_value-requires
 set_array_value-requires c = record { p_in_bounds = c.requires.p_in_bounds; i_bound = omega (arith, c.array_size.ensures.1, c.if-array_size-i.false) }
 
 pub barrier_back-requires : goal.barrier_back-requires
-barrier_back-requires c = record { laid = c.requires.laid; l_in_bounds = omega (arith, c.requires.l_in_bounds, c.set_array_value.auto.w) }
+barrier_back-requires c = record { l_in_bounds = omega (arith, c.requires.l_in_bounds, c.set_array_value.auto.w) }
 
 pub shape_of-w : goal.shape_of-w
 shape_of-w c = c.barrier_back.auto.w ∙ c.set_array_value.auto.w

@@ -9,7 +9,7 @@ unfolding store_meta
 returns-then-not-is_table_or c = rw (← c.is_table_or.ensures, c.if-not-is_table_or.true)
 
 pub barrier_back-requires : goal.barrier_back-requires
-barrier_back-requires c = record { laid = c.requires.laid; l_in_bounds = omega (arith, c.requires.l_in_bounds, c.set_table_meta.auto.w) }
+barrier_back-requires c = record { l_in_bounds = omega (arith, c.requires.l_in_bounds, c.set_table_meta.auto.w) }
 
 pub shape_of-w : goal.shape_of-w
 shape_of-w c = c.barrier_back.auto.w ∙ c.set_table_meta.auto.w

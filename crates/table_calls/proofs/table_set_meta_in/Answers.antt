@@ -1,24 +1,22 @@
 -- `table_calls::table_set_meta_in` meets its contract: the callees' equations joined. Assumes nothing.
-use Rattle.laid.specs.Laid.{table_words, tables_room, sizes_laid}
+use Rattle.entered.specs.Entered.{none_refused}
+use Rattle.laid.specs.Laid.{table_words, tables_room, laid_of}
 use Rattle.table_calls.specs.TableCalls.{table_set_meta_in}
 use Rattle.table_calls.proofs.table_set_meta_in.Goals as goal
 
-pub tables_of-tables-requires : goal.tables_of-tables-requires
-tables_of-tables-requires c = sizes_laid _ c.requires.laid
-
 pub name_of-requires : goal.name_of-requires
-name_of-requires c = rw c.tables_of-tables.ensures (tables_room _ _ c.requires.laid c.requires.l_in_bounds)
+name_of-requires c = rw c.tables_of-tables.ensures (tables_room _ _ (laid_of _ c.args.l.fits) c.requires.l_in_bounds)
 
 pub body_of-p-requires : goal.body_of-p-requires
-body_of-p-requires c = record { room = rw c.tables_of-tables.ensures (tables_room _ _ c.requires.laid c.requires.l_in_bounds); i_lt_slots = rw c.tables_of-tables.ensures (rw c.in-At.is at (rw c.tables_of-tables.ensures at c.name_of.ensures).1) }
+body_of-p-requires c = record { room = rw c.tables_of-tables.ensures (tables_room _ _ (laid_of _ c.args.l.fits) c.requires.l_in_bounds); i_lt_slots = rw c.tables_of-tables.ensures (rw (rw c.in_ok-n.was at c.ok_or.ensures.ok_part) at (rw c.tables_of-tables.ensures at c.name_of.ensures).1) }
 
 pub store_meta-requires : goal.store_meta-requires
-store_meta-requires c = record { laid = c.requires.laid; l_in_bounds = c.requires.l_in_bounds; p_in_bounds = rw (table_words _ c.requires.laid) at (rw c.tables_of-tables.ensures at c.body_of-p.ensures).1 }
+store_meta-requires c = record { l_in_bounds = c.requires.l_in_bounds; p_in_bounds = rw (table_words _ (laid_of _ c.args.l.fits)) at (rw c.tables_of-tables.ensures at c.body_of-p.ensures).1 }
 
-pub returns-in-At : goal.returns-in-At
+pub returns : goal.returns
 unfolding table_set_meta_in
-returns-in-At c = rw (← (rw c.tables_of-tables.ensures at c.name_of.ensures).0, c.in-At.is, ← (rw c.tables_of-tables.ensures at c.body_of-p.ensures).0) c.store_meta.ensures
+returns c = rw (← (rw c.tables_of-tables.ensures at c.name_of.ensures).0, rw c.in_ok-n.was at c.ok_or.ensures.ok_part, ← (rw c.tables_of-tables.ensures at c.body_of-p.ensures).0) c.store_meta.ensures
 
-pub returns-in-Stale : goal.returns-in-Stale
+pub returns-in_err-n : goal.returns-in_err-n
 unfolding table_set_meta_in
-returns-in-Stale c = rw (← (rw c.tables_of-tables.ensures at c.name_of.ensures).0, c.in-Stale.is)
+returns-in_err-n c = let (a, b) = none_refused _ _ c.ok_or.ensures.value c.in_err-n.was c.from_residual.ensures.1 in rw (← (rw c.tables_of-tables.ensures at c.name_of.ensures).0, a, b)

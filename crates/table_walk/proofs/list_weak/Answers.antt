@@ -1,13 +1,10 @@
 -- `table_walk::list_weak` meets its contract: each way by its test. Assumes nothing.
-use Rattle.laid.specs.Laid.{weak_room_lem, sizes_laid}
+use Rattle.laid.specs.Laid.{weak_room_lem, laid_of}
 use Rattle.table_walk.specs.Tables.{list_weak}
 use Rattle.table_walk.proofs.list_weak.Goals as goal
 
-pub weak_of-requires : goal.weak_of-requires
-weak_of-requires c = sizes_laid _ c.requires.laid
-
 pub push-requires : goal.push-requires
-push-requires c = rw c.weak_of.ensures (weak_room_lem _ _ c.requires.laid c.requires.l_in_bounds)
+push-requires c = rw c.weak_of.ensures (weak_room_lem _ _ (laid_of _ c.args.l.fits) c.requires.l_in_bounds)
 
 pub returns-then-is_weak : goal.returns-then-is_weak
 unfolding list_weak

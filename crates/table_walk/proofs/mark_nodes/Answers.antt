@@ -15,13 +15,7 @@ pub overflow_add-q : goal.overflow_add-q
 overflow_add-q c = omega (arith, c.loop-j-test.true, c.requires.n_in_bounds)
 
 pub mark_node-requires : goal.mark_node-requires
-mark_node-requires c = record { laid = c.requires.laid; l_in_bounds = rw c.loop-j.invariant.long c.requires.l_in_bounds; q_in_bounds = omega (arith, c.loop-j.invariant.long, c.loop-j-test.true, c.requires.n_in_bounds) }
-
-pub overflow_add-j : goal.overflow_add-j
-overflow_add-j c = omega (arith, c.loop-j-test.true)
-
-pub loop-j-smaller : goal.loop-j-smaller
-loop-j-smaller c = omega (arith, c.loop-j-test.true)
+mark_node-requires c = record { l_in_bounds = rw c.loop-j.invariant.long c.requires.l_in_bounds; q_in_bounds = omega (arith, c.loop-j.invariant.long, c.loop-j-test.true, c.requires.n_in_bounds) }
 
 pub loop-j-preserved : goal.loop-j-preserved
 loop-j-preserved c = record { rest = run_again _ c.loop-j.invariant.rest c.loop-j-test.true c.mark_node.ensures; long = c.mark_node.auto.w ∙ c.loop-j.invariant.long }

@@ -1,5 +1,4 @@
 -- `table_walk::mark_nodes` meets its contract: what is left of the loop gives the whole. Assumes nothing.
-use Prim.Native.Nat.{◌-◌}
 use Rattle.layout.specs.Layout.{lay_of}
 use Rattle.mark.specs.Words.{ops}
 use Rattle.mark.proofs.Laws.{Going}
@@ -7,7 +6,4 @@ use Rattle.table_walk.specs.Tables.{mark_nth_node}
 use Rattle.table_walk.proofs.mark_nodes.Given as goal
 
 abbrev pub invariant-loop-j : goal.invariant-loop-j
-invariant-loop-j l = Going (mark_nth_node (ops (lay_of l.l)) (lay_of l.l) l.m l.q) l.n l.initial.w l.w l.j
-
-abbrev pub decreases-loop-j : goal.decreases-loop-j
-decreases-loop-j l = l.n - l.j
+invariant-loop-j l = Going (mark_nth_node (ops (lay_of l.l.sizes)) (lay_of l.l.sizes) l.m l.q) l.n l.initial.w l.w l.j

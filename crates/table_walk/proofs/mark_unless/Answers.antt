@@ -2,10 +2,10 @@
 use Rattle.table_walk.specs.Tables.{mark_unless}
 use Rattle.table_walk.proofs.mark_unless.Goals as goal
 
-pub returns-then-weak : goal.returns-then-weak
+pub returns-then-not-weak : goal.returns-then-not-weak
 unfolding mark_unless
-returns-then-weak c = rw c.if-weak.true
+returns-then-not-weak c = rw c.if-not-weak.true c.mark_place.ensures
 
-pub returns : goal.returns
+pub returns-else-not-weak : goal.returns-else-not-weak
 unfolding mark_unless
-returns c = rw c.if-weak.false c.mark_place.ensures
+returns-else-not-weak c = rw c.if-not-weak.false

@@ -16,21 +16,18 @@ unfolding opened accepted
 returns-then-not-sizes_fit c = (rw (le-leb _ _ c.if-w-lt-HEADER.false, ← c.sizes_at-s.ensures, ← c.sizes_fit.ensures, c.if-not-sizes_fit.true), tt)
 
 pub counts_fit-requires : goal.counts_fit-requires
-counts_fit-requires c = record { in_bounds = c.if-w-lt-HEADER.false; sizes_ok = sizes_fit_ok _ (sym c.sizes_fit.ensures ∙ c.if-not-sizes_fit.false) }
+counts_fit-requires c = c.if-w-lt-HEADER.false
+
+pub invariant_of-l : goal.invariant_of-l
+invariant_of-l c = record { fits = sizes_fit_ok _ (sym c.sizes_fit.ensures ∙ c.if-not-sizes_fit.false) }
 
 pub returns-then-not-counts_fit : goal.returns-then-not-counts_fit
 unfolding opened accepted
 returns-then-not-counts_fit c = (rw (le-leb _ _ c.if-w-lt-HEADER.false, ← c.sizes_at-s.ensures, ← c.sizes_fit.ensures, c.if-not-sizes_fit.false, ← c.counts_fit.ensures, c.if-not-counts_fit.true), tt)
 
-pub words_of-requires : goal.words_of-requires
-words_of-requires c = sizes_fit_ok _ (sym c.sizes_fit.ensures ∙ c.if-not-sizes_fit.false)
-
 pub returns-then-w-words_of : goal.returns-then-w-words_of
 unfolding opened accepted
 returns-then-w-words_of c = (rw (le-leb _ _ c.if-w-lt-HEADER.false, ← c.sizes_at-s.ensures, ← c.sizes_fit.ensures, c.if-not-sizes_fit.false, ← c.counts_fit.ensures, c.if-not-counts_fit.false, ← c.words_of.ensures, lt-leb _ _ c.if-w-words_of.true), tt)
-
-pub bytes_of-requires : goal.bytes_of-requires
-bytes_of-requires c = sizes_fit_ok _ (sym c.sizes_fit.ensures ∙ c.if-not-sizes_fit.false)
 
 pub returns-then-b-bytes_of : goal.returns-then-b-bytes_of
 unfolding opened accepted

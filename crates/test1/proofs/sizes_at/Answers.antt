@@ -4,4 +4,4 @@ use Rattle.test1.proofs.sizes_at.Goals as goal
 
 pub returns : goal.returns
 unfolding sizes_at
-returns c = rw (c.number.ensures, c.number-2.ensures, c.number-3.ensures, c.number-4.ensures, c.number-5.ensures, c.number-6.ensures, c.number-7.ensures, c.number-8.ensures, c.number-9.ensures, c.number-10.ensures)
+returns c = rw (c.wide.ensures.0, c.wide-2.ensures.0, c.wide-3.ensures.0, c.wide-4.ensures.0, c.wide-5.ensures.0, c.wide-6.ensures.0, c.wide-7.ensures.0, c.wide-8.ensures.0, c.wide-9.ensures.0, c.wide-10.ensures.0)

@@ -1,25 +1,26 @@
 -- `thread_calls::thread_set_global` meets its contract: the callees' equations joined. Assumes nothing.
-use mathlib.Core.Path.{◌∙◌, sym}
-use Rattle.entered.specs.Entered.{entered}
+use mathlib.Core.Path.{ap}
+use Rattle.layout.specs.Plans.{sizes_given}
+use Rattle.entered.specs.Entered.{none_refused}
 use Rattle.owners.specs.Owners.{on_thread}
-use Rattle.test1.specs.Calls.{call_refused, call_words}
+use Rattle.test1.specs.Calls.{call_err, call_words}
 use Rattle.thread_calls.specs.ThreadCalls.{thread_set_global}
 use Rattle.thread_calls.proofs.thread_set_global.Goals as goal
 
 pub thread_body-requires : goal.thread_body-requires
-thread_body-requires c = record { laid = entered _ _ _ (sym c.in-Fits.is ∙ c.enter.ensures.0); l_in_bounds = (rw c.in-Fits.is at c.enter.ensures.1).words }
+thread_body-requires c = record { l_in_bounds = (rw c.in_ok-l.was at c.enter.ensures.1).words }
 
 pub set_global_at-requires : goal.set_global_at-requires
-set_global_at-requires c = record { laid = entered _ _ _ (sym c.in-Fits.is ∙ c.enter.ensures.0); l_in_bounds = (rw c.in-Fits.is at c.enter.ensures.1).words; p_in_bounds = rw c.in-At.is at c.thread_body.ensures.1 }
+set_global_at-requires c = record { l_in_bounds = (rw c.in_ok-l.was at c.enter.ensures.1).words; p_in_bounds = rw (rw c.in_ok-p.was at c.ok_or.ensures.ok_part) at c.thread_body.ensures.1 }
 
-pub returns-in-At : goal.returns-in-At
+pub returns : goal.returns
 unfolding thread_set_global on_thread
-returns-in-At c = call_words _ _ _ _ _ _ _ c.enter.ensures.0 c.in-Fits.is (rw (← c.thread_body.ensures.0, c.in-At.is) c.set_global_at.ensures)
+returns c = call_words _ _ _ _ _ _ _ c.enter.ensures.0 (ap sizes_given c.in_ok-l.was) (rw (← c.thread_body.ensures.0, rw c.in_ok-p.was at c.ok_or.ensures.ok_part) c.set_global_at.ensures)
 
-pub returns-in-Stale : goal.returns-in-Stale
+pub returns-in_err-p : goal.returns-in_err-p
 unfolding thread_set_global on_thread
-returns-in-Stale c = call_words _ _ _ _ _ _ _ c.enter.ensures.0 c.in-Fits.is (rw (← c.thread_body.ensures.0, c.in-Stale.is))
+returns-in_err-p c = call_words _ _ _ _ _ _ _ c.enter.ensures.0 (ap sizes_given c.in_ok-l.was) (let (a, b) = none_refused _ _ c.ok_or.ensures.value c.in_err-p.was c.from_residual-in_err-p.ensures.1 in rw (← c.thread_body.ensures.0, a, b))
 
-pub returns-in-Refused : goal.returns-in-Refused
+pub returns-in_err-l : goal.returns-in_err-l
 unfolding thread_set_global
-returns-in-Refused c = call_refused _ _ _ _ _ c.enter.ensures.0 c.in-Refused.is
+returns-in_err-l c = call_err _ _ _ c.enter.ensures.0 c.in_err-l.was c.from_residual.ensures.1

@@ -9,6 +9,6 @@ pub returns-then-some-eq0 : goal.returns-then-some-eq0
 unfolding table_of
 returns-then-some-eq0 c = eq_yes _ _ _ _ _ (omega arith) refl
 
-pub returns : goal.returns
+pub returns-else-some-eq0 : goal.returns-else-some-eq0
 unfolding table_of
-returns c = eq_no _ _ _ _ _ (omega arith) refl
+returns-else-some-eq0 c = eq_no _ _ _ _ _ (omega arith) refl

@@ -2,10 +2,10 @@
 use Rattle.told.specs.Answers.{got_told}
 use Rattle.told.proofs.tell_value.Goals as goal
 
-pub returns-in-Value : goal.returns-in-Value
+pub returns-in-Ok : goal.returns-in-Ok
 unfolding got_told
-returns-in-Value c = rw (c.in-Value.is, ← c.write_value.ensures)
+returns-in-Ok c = rw (c.in-Ok.is, ← c.write_value.ensures)
 
-pub returns-in-Refused : goal.returns-in-Refused
+pub returns-in-Err : goal.returns-in-Err
 unfolding got_told
-returns-in-Refused c = rw c.in-Refused.is
+returns-in-Err c = rw (c.in-Err.is, c.number.ensures)

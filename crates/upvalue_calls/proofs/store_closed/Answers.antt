@@ -1,7 +1,7 @@
 -- `upvalue_calls::store_closed` meets its contract: each way by its test. Assumes nothing.
 use mathlib.Core.Path.{◌∙◌}
 use native.Mathlib.Omega.{arith}
-use Rattle.laid.specs.Laid.{upvalues_room, sizes_laid}
+use Rattle.laid.specs.Laid.{upvalues_room, laid_of}
 use Rattle.upvalue_calls.specs.UpvalueCalls.{store_closed}
 use Rattle.upvalue_calls.proofs.store_closed.Goals as goal
 
@@ -15,14 +15,11 @@ set_closed-requires c = c.requires.p_in_bounds
 pub set_upvalue_value-requires : goal.set_upvalue_value-requires
 set_upvalue_value-requires c = omega (arith, c.requires.p_in_bounds, c.set_closed.auto.w)
 
-pub upvalues_of-requires : goal.upvalues_of-requires
-upvalues_of-requires c = sizes_laid _ c.requires.laid
-
 pub shade-c-requires : goal.shade-c-requires
-shade-c-requires c = rw c.upvalues_of.ensures (upvalues_room _ _ c.requires.laid (omega (arith, c.requires.l_in_bounds, c.set_closed.auto.w, c.set_upvalue_value.auto.w)))
+shade-c-requires c = rw c.upvalues_of.ensures (upvalues_room _ _ (laid_of _ c.args.l.fits) (omega (arith, c.requires.l_in_bounds, c.set_closed.auto.w, c.set_upvalue_value.auto.w)))
 
 pub barrier_forward-requires : goal.barrier_forward-requires
-barrier_forward-requires c = record { laid = c.requires.laid; l_in_bounds = omega (arith, c.requires.l_in_bounds, c.set_closed.auto.w, c.set_upvalue_value.auto.w) }
+barrier_forward-requires c = record { l_in_bounds = omega (arith, c.requires.l_in_bounds, c.set_closed.auto.w, c.set_upvalue_value.auto.w) }
 
 pub shape_of-w : goal.shape_of-w
 shape_of-w c = c.barrier_forward.auto.w ∙ c.set_upvalue_value.auto.w ∙ c.set_closed.auto.w

@@ -8,6 +8,6 @@ pub returns-then-first-eq0 : goal.returns-then-first-eq0
 unfolding handle_of
 returns-then-first-eq0 c = eq_yes _ _ _ _ _ c.if-first-eq0.true refl
 
-pub returns : goal.returns
+pub returns-else-first-eq0 : goal.returns-else-first-eq0
 unfolding handle_of
-returns c = eq_no _ _ _ _ _ c.if-first-eq0.false refl
+returns-else-first-eq0 c = eq_no _ _ _ _ _ c.if-first-eq0.false refl

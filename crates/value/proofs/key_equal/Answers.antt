@@ -12,6 +12,6 @@ pub returns-then-t-eq3 : goal.returns-then-t-eq3
 unfolding key_equal
 returns-then-t-eq3 c = eq_yes _ _ _ _ _ (omega arith) (eq_yes _ _ _ _ _ (omega arith) (rw (← c.bits_of.ensures, ← c.bits_of-then-t-eq3.ensures) c.same_number.ensures))
 
-pub returns : goal.returns
+pub returns-else-t-eq3 : goal.returns-else-t-eq3
 unfolding key_equal
-returns c = eq_yes _ _ _ _ _ (omega arith) (eq_no _ _ _ _ _ (λ e. omega arith) c.payload_equal.ensures)
+returns-else-t-eq3 c = eq_yes _ _ _ _ _ (omega arith) (eq_no _ _ _ _ _ (λ e. omega arith) c.payload_equal.ensures)

@@ -2,10 +2,10 @@
 use Rattle.value.specs.Handles.{put_handle}
 use Rattle.value.proofs.write_handle.Goals as goal
 
-pub returns-in-Absent : goal.returns-in-Absent
+pub returns-in-None : goal.returns-in-None
 unfolding put_handle
-returns-in-Absent c = rw c.in-Absent.is c.put_pair.ensures
+returns-in-None c = rw c.in-None.is c.put_pair.ensures
 
-pub returns-in-Present : goal.returns-in-Present
+pub returns-in-Some : goal.returns-in-Some
 unfolding put_handle
-returns-in-Present c = rw (c.in-Present.is, ← c.wrapping_add_u32.ensures.value) c.put_pair-in-Present.ensures
+returns-in-Some c = rw c.in-Some.is c.put_pair-in-Some.ensures

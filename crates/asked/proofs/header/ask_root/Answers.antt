@@ -1,11 +1,10 @@
 -- `asked::header::ask_root` meets its contract: from what its callees promise. Assumes nothing.
+use Rattle.std.proofs.Common.{rules}
+use Rattle.reads.specs.Reads.{read_root}
+use Rattle.asked.specs.Asked.{asked_by}
 use Rattle.asked.specs.Header.{ask_root}
 use Rattle.asked.proofs.header.ask_root.Goals as goal
 
-pub returns-in-Known : goal.returns-in-Known
+pub returns : goal.returns
 unfolding ask_root
-returns-in-Known c = rw (← c.root_of.ensures, c.in-Known.is) c.read_root.ensures
-
-pub returns-in-Unknown : goal.returns-in-Unknown
-unfolding ask_root
-returns-in-Unknown c = rw (← c.root_of.ensures, c.in-Unknown.is) c.no_question.ensures
+returns c = rw (← c.root_of.ensures) (asked_by _ read_root _ _ _ (λ q p. search rules) c.ask.ensures)

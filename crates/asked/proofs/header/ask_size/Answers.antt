@@ -1,11 +1,10 @@
 -- `asked::header::ask_size` meets its contract: from what its callees promise. Assumes nothing.
+use Rattle.std.proofs.Common.{rules}
+use Rattle.reads.specs.Reads.{read_size}
+use Rattle.asked.specs.Asked.{asked_by}
 use Rattle.asked.specs.Header.{ask_size}
 use Rattle.asked.proofs.header.ask_size.Goals as goal
 
-pub returns-in-Known : goal.returns-in-Known
+pub returns : goal.returns
 unfolding ask_size
-returns-in-Known c = rw (← c.size_of.ensures, c.in-Known.is) c.read_size.ensures
-
-pub returns-in-Unknown : goal.returns-in-Unknown
-unfolding ask_size
-returns-in-Unknown c = rw (← c.size_of.ensures, c.in-Unknown.is) c.no_question.ensures
+returns c = rw (← c.size_of.ensures) (asked_by _ read_size _ _ _ (λ q p. search rules) c.ask.ensures)

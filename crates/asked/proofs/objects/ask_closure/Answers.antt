@@ -1,11 +1,10 @@
 -- `asked::objects::ask_closure` meets its contract: from what its callees promise. Assumes nothing.
+use Rattle.std.proofs.Common.{rules}
+use Rattle.run_reads.specs.RunReads.{read_closure}
+use Rattle.asked.specs.Asked.{asked_by}
 use Rattle.asked.specs.Objects.{ask_closure}
 use Rattle.asked.proofs.objects.ask_closure.Goals as goal
 
-pub returns-in-Known : goal.returns-in-Known
+pub returns : goal.returns
 unfolding ask_closure
-returns-in-Known c = rw (← c.closure_field_of.ensures, c.in-Known.is) c.read_closure.ensures
-
-pub returns-in-Unknown : goal.returns-in-Unknown
-unfolding ask_closure
-returns-in-Unknown c = rw (← c.closure_field_of.ensures, c.in-Unknown.is) c.no_question.ensures
+returns c = rw (← c.closure_field_of.ensures) (asked_by _ (read_closure _) _ _ _ (λ q p. search rules) c.ask.ensures)

@@ -1,11 +1,10 @@
 -- `asked::objects::ask_thread` meets its contract: from what its callees promise. Assumes nothing.
+use Rattle.std.proofs.Common.{rules}
+use Rattle.run_reads.specs.RunReads.{read_thread}
+use Rattle.asked.specs.Asked.{asked_by}
 use Rattle.asked.specs.Objects.{ask_thread}
 use Rattle.asked.proofs.objects.ask_thread.Goals as goal
 
-pub returns-in-Known : goal.returns-in-Known
+pub returns : goal.returns
 unfolding ask_thread
-returns-in-Known c = rw (← c.thread_field_of.ensures, c.in-Known.is) c.read_thread.ensures
-
-pub returns-in-Unknown : goal.returns-in-Unknown
-unfolding ask_thread
-returns-in-Unknown c = rw (← c.thread_field_of.ensures, c.in-Unknown.is) c.no_question.ensures
+returns c = rw (← c.thread_field_of.ensures) (asked_by _ (read_thread _) _ _ _ (λ q p. search rules) c.ask.ensures)

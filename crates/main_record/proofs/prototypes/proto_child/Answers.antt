@@ -1,9 +1,5 @@
 -- `main_record::prototypes::proto_child` meets its contract: the callees' equations joined. Assumes nothing.
-use Rattle.layout.specs.Fits.{sizes_of_lem}
 use Rattle.main_record.proofs.prototypes.proto_child.Goals as goal
-
-pub protos_at-requires : goal.protos_at-requires
-protos_at-requires c = sizes_of_lem _ c.requires.parts.sizes
 
 pub returns : goal.returns
 returns c = rw (← c.protos_at.ensures) c.number_at.ensures

@@ -1,18 +1,14 @@
 -- `main_record::prototypes::proto_constants` meets its contract: each way by its test. Assumes nothing.
 use mathlib.Core.Path.{refl}
 use native.Mathlib.Omega.{arith}
-use Rattle.layout.specs.Fits.{sizes_of_lem}
 use Rattle.base.specs.Ways.{lt_yes, lt_no}
 use Rattle.main_record.specs.Prototypes.{proto_constants}
 use Rattle.main_record.proofs.prototypes.proto_constants.Goals as goal
-
-pub protos_at-requires : goal.protos_at-requires
-protos_at-requires c = sizes_of_lem _ c.requires.sizes
 
 pub returns-then-n-protos_used : goal.returns-then-n-protos_used
 unfolding proto_constants
 returns-then-n-protos_used c = (lt_yes _ _ _ _ _ (omega arith) (rw c.protos_at.ensures at c.count_at.ensures.0), omega arith, omega arith)
 
-pub returns : goal.returns
+pub returns-else-n-protos_used : goal.returns-else-n-protos_used
 unfolding proto_constants
-returns c = (lt_no _ _ _ _ _ (omega arith) refl, omega arith, omega arith)
+returns-else-n-protos_used c = (lt_no _ _ _ _ _ (omega arith) refl, omega arith, omega arith)

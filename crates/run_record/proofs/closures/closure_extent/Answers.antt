@@ -5,5 +5,5 @@ use Rattle.run_record.proofs.closures.closure_extent.Goals as goal
 pub returns-then-rust : goal.returns-then-rust
 returns-then-rust c = (rw c.if-rust.true, omega arith)
 
-pub returns : goal.returns
-returns c = (rw c.if-rust.false, omega arith)
+pub returns-else-rust : goal.returns-else-rust
+returns-else-rust c = (rw c.if-rust.false, omega arith)

@@ -19,12 +19,12 @@ pub returns-then-is_rust : goal.returns-then-is_rust
 unfolding closure_cost
 returns-then-is_rust c = (rw (← c.is_rust.ensures, c.if-is_rust.true, ← c.closure_count-k.ensures.0), omega (arith, c.closure_count-k.ensures.1))
 
-pub overflow_mul-result-2 : goal.overflow_mul-result-2
-overflow_mul-result-2 c = omega (arith, c.closure_count-k.ensures.1)
+pub overflow_mul-result-else-is_rust : goal.overflow_mul-result-else-is_rust
+overflow_mul-result-else-is_rust c = omega (arith, c.closure_count-k.ensures.1)
 
-pub overflow_add-result-2 : goal.overflow_add-result-2
-overflow_add-result-2 c = omega (arith, c.closure_count-k.ensures.1)
+pub overflow_add-result-else-is_rust : goal.overflow_add-result-else-is_rust
+overflow_add-result-else-is_rust c = omega (arith, c.closure_count-k.ensures.1)
 
-pub returns : goal.returns
+pub returns-else-is_rust : goal.returns-else-is_rust
 unfolding closure_cost
-returns c = (rw (← c.is_rust.ensures, c.if-is_rust.false, ← c.closure_count-k.ensures.0), omega (arith, c.closure_count-k.ensures.1))
+returns-else-is_rust c = (rw (← c.is_rust.ensures, c.if-is_rust.false, ← c.closure_count-k.ensures.0), omega (arith, c.closure_count-k.ensures.1))

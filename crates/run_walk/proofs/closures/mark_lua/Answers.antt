@@ -14,10 +14,10 @@ pub overflow_add-p : goal.overflow_add-p
 overflow_add-p c = omega (arith, c.requires.p_in_bounds)
 
 pub mark_upvalues-requires : goal.mark_upvalues-requires
-mark_upvalues-requires c = record { laid = c.requires.laid; l_in_bounds = c.requires.l_in_bounds; n_in_bounds = omega (arith, c.requires.p_in_bounds, c.closure_count-k.ensures.1) }
+mark_upvalues-requires c = record { l_in_bounds = c.requires.l_in_bounds; n_in_bounds = omega (arith, c.requires.p_in_bounds, c.closure_count-k.ensures.1) }
 
 pub mark_proto_constants-requires : goal.mark_proto_constants-requires
-mark_proto_constants-requires c = record { laid = c.requires.laid; l_in_bounds = omega (arith, c.requires.l_in_bounds, c.mark_upvalues.auto.w) }
+mark_proto_constants-requires c = record { l_in_bounds = omega (arith, c.requires.l_in_bounds, c.mark_upvalues.auto.w) }
 
 pub shape_of-w : goal.shape_of-w
 shape_of-w c = c.mark_proto_constants.auto.w ∙ c.mark_upvalues.auto.w

@@ -10,7 +10,7 @@ pub overflow_add-p : goal.overflow_add-p
 overflow_add-p c = omega (arith, c.requires.p_in_bounds)
 
 pub mark_values-requires : goal.mark_values-requires
-mark_values-requires c = record { laid = c.requires.laid; l_in_bounds = c.requires.l_in_bounds; n_in_bounds = omega (arith, c.requires.p_in_bounds, c.closure_count-k.ensures.1) }
+mark_values-requires c = record { l_in_bounds = c.requires.l_in_bounds; n_in_bounds = omega (arith, c.requires.p_in_bounds, c.closure_count-k.ensures.1) }
 
 pub shape_of-w : goal.shape_of-w
 shape_of-w c = c.mark_values.auto.w

@@ -2,18 +2,15 @@
 use native.Mathlib.Omega.{arith}
 use mathlib.Core.Path.{refl}
 use Rattle.layout.specs.Layout.{lay_of}
-use Rattle.laid.specs.Laid.{sizes_laid}
 use Rattle.base.specs.Ways.{lt_yes, lt_no}
+use Rattle.laid.specs.Laid.{laid_of}
 use Rattle.run_walk.proofs.Laws.{parts_in}
 use Rattle.run_walk.specs.MainThread.{mark_frame}
 use Rattle.run_walk.proofs.main_thread.mark_frame.Goals as goal
 
 pub frame_function-f-requires : goal.frame_function-f-requires
 unfolding lay_of
-frame_function-f-requires c = record { parts = parts_in c.requires.laid c.requires.l_in_bounds; i_bound = c.requires.i_bound }
-
-pub stack_at-requires : goal.stack_at-requires
-stack_at-requires c = sizes_laid _ c.requires.laid
+frame_function-f-requires c = record { parts = parts_in (laid_of _ c.args.l.fits) c.requires.l_in_bounds; i_bound = c.requires.i_bound }
 
 pub overflow_mul-f : goal.overflow_mul-f
 unfolding lay_of
@@ -21,11 +18,11 @@ overflow_mul-f c = omega (arith, c.stack_at.ensures, c.frame_function-f.ensures.
 
 pub overflow_add-stack_at : goal.overflow_add-stack_at
 unfolding lay_of
-overflow_add-stack_at c = omega (arith, c.stack_at.ensures, (parts_in c.requires.laid c.requires.l_in_bounds).stack, c.if-f-l.true)
+overflow_add-stack_at c = omega (arith, c.stack_at.ensures, (parts_in (laid_of _ c.args.l.fits) c.requires.l_in_bounds).stack, c.if-f-l.true)
 
 pub mark_value_at-requires : goal.mark_value_at-requires
 unfolding lay_of
-mark_value_at-requires c = record { laid = c.requires.laid; l_in_bounds = c.requires.l_in_bounds; p_in_bounds = omega (arith, c.stack_at.ensures, (parts_in c.requires.laid c.requires.l_in_bounds).stack, c.if-f-l.true) }
+mark_value_at-requires c = record { l_in_bounds = c.requires.l_in_bounds; p_in_bounds = omega (arith, c.stack_at.ensures, (parts_in (laid_of _ c.args.l.fits) c.requires.l_in_bounds).stack, c.if-f-l.true) }
 
 pub shape_of-w-then-f-l : goal.shape_of-w-then-f-l
 unfolding lay_of

@@ -9,13 +9,7 @@ pub loop-i-init : goal.loop-i-init
 loop-i-init c = record { rest = refl; long = refl }
 
 pub mark_frame-requires : goal.mark_frame-requires
-mark_frame-requires c = record { laid = c.requires.laid; l_in_bounds = omega (arith, c.requires.l_in_bounds, c.loop-i.invariant.long); i_bound = omega (arith, c.requires.n_bound, c.loop-i-test.true) }
-
-pub overflow_add-i : goal.overflow_add-i
-overflow_add-i c = omega (arith, c.loop-i-test.true)
-
-pub loop-i-smaller : goal.loop-i-smaller
-loop-i-smaller c = omega (arith, c.loop-i-test.true)
+mark_frame-requires c = record { l_in_bounds = omega (arith, c.requires.l_in_bounds, c.loop-i.invariant.long); i_bound = omega (arith, c.requires.n_bound, c.loop-i-test.true) }
 
 pub loop-i-preserved : goal.loop-i-preserved
 loop-i-preserved c = record { rest = run_again _ c.loop-i.invariant.rest c.loop-i-test.true c.mark_frame.ensures; long = c.mark_frame.auto.w ∙ c.loop-i.invariant.long }

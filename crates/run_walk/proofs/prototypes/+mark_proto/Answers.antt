@@ -1,6 +1,7 @@
 -- `run_walk::prototypes::mark_proto` meets its contract: the number falls, and what is left of the loop gives the whole. Assumes nothing.
 use Rattle.std.proofs.Common.{arith}
 use Rattle.base.specs.Loop.{run_again, run_end}
+use Rattle.laid.specs.Laid.{laid_of}
 use Rattle.run_walk.proofs.Laws.{nested_below, nested_skipped, parts_in, proto_seen, proto_walked}
 use Rattle.run_walk.proofs.prototypes.+mark_proto.Goals.{then-q-n, else-q-n}
 use Rattle.run_walk.proofs.prototypes.+mark_proto.Goals as goal
@@ -9,10 +10,10 @@ pub returns-then-seen-n-gt0 : goal.returns-then-seen-n-gt0
 returns-then-seen-n-gt0 t c = proto_seen _ _ _ _ c.if-seen-n-gt0.true
 
 pub proto_nested-m-requires : goal.proto_nested-m-requires
-proto_nested-m-requires t c = parts_in c.requires.laid (omega (arith, c.requires.l_in_bounds, c.mark_constants.auto.w))
+proto_nested-m-requires t c = parts_in (laid_of _ c.args.l.fits) (omega (arith, c.requires.l_in_bounds, c.mark_constants.auto.w))
 
 pub proto_child-q-requires-clause-parts : goal.proto_child-q-requires-clause-parts
-proto_child-q-requires-clause-parts t c = parts_in c.requires.laid (omega (arith, c.requires.l_in_bounds, c.mark_constants.auto.w, c.loop-j.invariant.long))
+proto_child-q-requires-clause-parts t c = parts_in (laid_of _ c.args.l.fits) (omega (arith, c.requires.l_in_bounds, c.mark_constants.auto.w, c.loop-j.invariant.long))
 
 pub loop-j-preserved : goal.loop-j-preserved
 loop-j-preserved t c =

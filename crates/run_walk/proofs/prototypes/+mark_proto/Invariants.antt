@@ -10,7 +10,7 @@ abbrev pub decreases-mark_proto : goal.decreases-mark_proto
 decreases-mark_proto l = l.n
 
 abbrev pub invariant-loop-j : goal.invariant-loop-j
-invariant-loop-j l = Nested (nested_one (ops (lay_of l.l)) (lay_of l.l) (below (ops (lay_of l.l)) (lay_of l.l) l.n) l.n) l.m l.initial.w l.initial.seen l.w l.seen l.j
+invariant-loop-j l = Nested (nested_one (ops (lay_of l.l.sizes)) (lay_of l.l.sizes) (below (ops (lay_of l.l.sizes)) (lay_of l.l.sizes) l.n) l.n) l.m l.initial.w l.initial.seen l.w l.seen l.j
 
 abbrev pub decreases-loop-j : goal.decreases-loop-j
 decreases-loop-j l = l.m - l.j

@@ -3,7 +3,7 @@ use mathlib.Core.Path.{refl, ap}
 use Rattle.layout.specs.Layout.{lay_of}
 use Rattle.base.specs.Ways.{le_yes, le_no, eq_yes, eq_no}
 use Rattle.run_walk.specs.Prototypes.{zeros, mark_proto_constants}
-use Rattle.laid.specs.Laid.{protos_most}
+use Rattle.laid.specs.Laid.{protos_most, laid_of}
 use Rattle.run_walk.proofs.Laws.{parts_in}
 use Rattle.run_walk.proofs.prototypes.mark_proto_constants.Goals as goal
 
@@ -13,11 +13,11 @@ returns-then-l-n c = le_yes _ _ _ _ _ c.if-l-n.true refl
 
 pub proto_nested-requires : goal.proto_nested-requires
 unfolding lay_of
-proto_nested-requires c = parts_in c.requires.laid c.requires.l_in_bounds
+proto_nested-requires c = parts_in (laid_of _ c.args.l.fits) c.requires.l_in_bounds
 
 pub mark_constants-requires : goal.mark_constants-requires
 unfolding lay_of
-mark_constants-requires c = record { laid = c.requires.laid; l_in_bounds = c.requires.l_in_bounds; n_bound = c.if-l-n.false }
+mark_constants-requires c = record { l_in_bounds = c.requires.l_in_bounds; n_bound = c.if-l-n.false }
 
 pub shape_of-w-then-proto_nested-eq0 : goal.shape_of-w-then-proto_nested-eq0
 unfolding lay_of
@@ -32,7 +32,7 @@ slice_bounds-mark_proto-end c = refl
 
 pub mark_proto-requires : goal.mark_proto-requires
 unfolding lay_of
-mark_proto-requires c = record { laid = c.requires.laid; l_in_bounds = c.requires.l_in_bounds; n_bound = (c.if-l-n.false, protos_most _ c.requires.laid) }
+mark_proto-requires c = record { l_in_bounds = c.requires.l_in_bounds; n_bound = (c.if-l-n.false, protos_most _ (laid_of _ c.args.l.fits)) }
 
 pub shape_of-w : goal.shape_of-w
 unfolding lay_of

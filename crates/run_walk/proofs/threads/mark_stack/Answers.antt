@@ -17,19 +17,19 @@ pub overflow_add-p : goal.overflow_add-p
 overflow_add-p c = omega (arith, c.requires.p_in_bounds)
 
 pub mark_values-requires : goal.mark_values-requires
-mark_values-requires c = record { laid = c.requires.laid; l_in_bounds = c.requires.l_in_bounds; n_in_bounds = omega (arith, c.requires.p_in_bounds, c.thread_top-top.ensures.1) }
+mark_values-requires c = record { l_in_bounds = c.requires.l_in_bounds; n_in_bounds = omega (arith, c.requires.p_in_bounds, c.thread_top-top.ensures.1) }
 
 pub overflow_add-p-2 : goal.overflow_add-p-2
 overflow_add-p-2 c = omega (arith, c.requires.p_in_bounds)
 
 pub mark_upvalues-requires : goal.mark_upvalues-requires
-mark_upvalues-requires c = record { laid = c.requires.laid; l_in_bounds = omega (arith, c.requires.l_in_bounds, c.mark_values.auto.w); n_in_bounds = omega (arith, c.requires.p_in_bounds, c.thread_open_count-opens.ensures.1, c.mark_values.auto.w) }
+mark_upvalues-requires c = record { l_in_bounds = omega (arith, c.requires.l_in_bounds, c.mark_values.auto.w); n_in_bounds = omega (arith, c.requires.p_in_bounds, c.thread_open_count-opens.ensures.1, c.mark_values.auto.w) }
 
 pub overflow_add-p-3 : goal.overflow_add-p-3
 overflow_add-p-3 c = omega (arith, c.requires.p_in_bounds)
 
 pub mark_upvalues-requires-2 : goal.mark_upvalues-requires-2
-mark_upvalues-requires-2 c = record { laid = c.requires.laid; l_in_bounds = omega (arith, c.requires.l_in_bounds, c.mark_values.auto.w, c.mark_upvalues.auto.w); n_in_bounds = omega (arith, c.requires.p_in_bounds, c.thread_suspended_count-suspended.ensures.1, c.mark_values.auto.w, c.mark_upvalues.auto.w) }
+mark_upvalues-requires-2 c = record { l_in_bounds = omega (arith, c.requires.l_in_bounds, c.mark_values.auto.w, c.mark_upvalues.auto.w); n_in_bounds = omega (arith, c.requires.p_in_bounds, c.thread_suspended_count-suspended.ensures.1, c.mark_values.auto.w, c.mark_upvalues.auto.w) }
 
 pub shape_of-w : goal.shape_of-w
 shape_of-w c = c.mark_upvalues-2.auto.w ∙ c.mark_upvalues.auto.w ∙ c.mark_values.auto.w

@@ -1,5 +1,0 @@
--- `codes::str_words` meets its contract: each kind by its row. Assumes nothing.
-use Rattle.codes.proofs.str_words.Goals as goal
-
-pub returns-in-Present : goal.returns-in-Present
-returns-in-Present c = rw c.in-Present.is

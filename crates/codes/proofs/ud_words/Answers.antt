@@ -1,5 +1,0 @@
--- `codes::ud_words` meets its contract: each kind by its row. Assumes nothing.
-use Rattle.codes.proofs.ud_words.Goals as goal
-
-pub returns-in-Present : goal.returns-in-Present
-returns-in-Present c = rw c.in-Present.is
