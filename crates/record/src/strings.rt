@@ -34,8 +34,10 @@ pub fn text_put(b: &mut [u8], i: usize, s: &[u8])
     ensures { b.new ≡ text_put i s.now b.old }
 {
     let from = 64 * i;
-    let n = s.len();
-    b[from..from + n].copy_from_slice(s);
+    // No `copy_from_slice`: it is a call of C's memmove, which an archive would need from outside for 64 bytes at most.
+    for k in 0..s.len() {
+        b[from + k] = s[k];
+    }
 }
 
 // The byte search.
