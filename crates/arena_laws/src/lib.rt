@@ -1,2 +1,4 @@
 // Laws of the slots of one arena: all of them stand in specs/.
 #![tactic(auto)]
+
+pub use base::same;

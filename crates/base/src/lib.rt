@@ -5,7 +5,7 @@ ghost use Rattle.std.specs.Prelude.{◌≡◌, ℕ, ◌+◌, ◌-◌, ◌*◌, �
 ghost use Rattle.base.specs.Words.{at, put, clear, join, get64, put64, add_sat, more, bounded};
 ghost use Rattle.base.specs.Refusals.{number};
 
-// The refusals of document 01, in the order of their numbers.
+// The refusals of document 01, in the order of their numbers, and any other number.
 #[derive(Clone, Copy, PartialEq, Eq)]
 pub enum Refusal {
     // A buffer is too short, or a stored size, count, phase or current white lies outside its range.
@@ -24,6 +24,8 @@ pub enum Refusal {
     OverLimit,
     // The damage mark is set.
     Damaged,
+    // A number without a name here. No call of document 01 answers it; what tells an answer or hands it on takes any number.
+    Other(u32),
 }
 
 impl Refusal {
@@ -40,8 +42,16 @@ impl Refusal {
             Refusal::TooLarge => 6,
             Refusal::OverLimit => 7,
             Refusal::Damaged => 8,
+            Refusal::Other(n) => n,
         }
     }
+}
+
+// The number that it is given. The crates that hold definitions and theorems alone hand this on.
+pub fn same(x: u32) -> u32
+    ensures { result ≡ x }
+{
+    std::convert::identity(x)
 }
 
 // A word as an index or a count.

@@ -1,2 +1,4 @@
 // Laws of a full collection: all of them stand in specs/.
 #![tactic(auto)]
+
+pub use base::same;

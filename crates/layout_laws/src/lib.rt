@@ -1,2 +1,4 @@
 // Laws of the layout: all of them stand in specs/.
 #![tactic(auto)]
+
+pub use base::same;

@@ -1,2 +1,4 @@
 // What marking reaches: all of them stand in specs/.
 #![tactic(auto)]
+
+pub use base::same;

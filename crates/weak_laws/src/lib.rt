@@ -1,2 +1,4 @@
 // Laws of weak tables against the manual: all of them stand in specs/.
 #![tactic(auto)]
+
+pub use base::same;
