@@ -1,0 +1,10 @@
+pub mod Known
+pub mod Begins
+pub mod Reads
+pub mod Asks
+pub mod Makes
+pub mod Stores
+pub mod Changes
+pub mod Steps
+pub mod Scripts
+pub mod Tells
