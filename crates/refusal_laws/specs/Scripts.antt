@@ -1,5 +1,5 @@
 -- A script's commands, by the heap's calls. Assumes nothing.
-use Rattle.std.specs.Prelude.{true, List, ℕ, zero, suc, drop, Some, None, Ok, Err, Option, Result}
+use Rattle.std.specs.Prelude.{true, List, [], ℕ, zero, suc, drop, Some, None, Ok, Err, Option, Result}
 use Rattle.base.specs.Heap.{Heap}
 use Rattle.base.specs.declared.Refusal.{Refusal}
 use Rattle.value.specs.declared.TableRef.{TableRef}
@@ -15,7 +15,7 @@ use Rattle.node_calls.specs.NodeCalls.{table_set_node}
 use Rattle.object_calls.specs.ObjectCalls.{ud_set_meta}
 use Rattle.script_made.specs.Objects.{object_of, is_full}
 use Rattle.script_print.specs.declared.Outcome.{Outcome}
-use Rattle.script_answers.specs.Answers.{Script, of_served, of_got, table_of, meta_of}
+use Rattle.script_answers.specs.Answers.{Script, script, of_served, of_got, table_of, meta_of}
 use Rattle.script_makes.specs.Makes.{numbered, make, str_command, tab_command, ud_command}
 use Rattle.accounts.specs.declared.Answer.{Answer}
 use Rattle.accounts.specs.declared.Answer.TheVariants.{Stepped, Unfinished, Ended, Passed, Handed, Busy, Failed}
@@ -149,18 +149,20 @@ ended_known c h (Ok Busy) p = tt
 ended_known c h (Ok Failed) p = tt
 ended_known c h (Err k) p = p
 
-all_known : (h : Heap) → Answered (ended (counts_in h) (finals (counts_in h).userdata (full_gc h).0 (full_gc h).1).1.1 (finals (counts_in h).userdata (full_gc h).0 (full_gc h).1).1.0)
-all_known h =
-    let x = finals (counts_in h).userdata (full_gc h).0 (full_gc h).1 in
-    ended_known (counts_in h) x.1.1 x.1.0 (finals_known (counts_in h).userdata (full_gc h).0 (full_gc h).1 (full_gc_known h))
+collect_known : (s : Script) → Answered (collect_command s).outcome
+unfolding collect_command
+collect_known s =
+    let before = counts_in s.heap in
+    let x = finals before.userdata (full_gc s.heap).0 (full_gc s.heap).1 in
+    ended_known before x.1.1 x.1.0 (finals_known before.userdata (full_gc s.heap).0 (full_gc s.heap).1 (full_gc_known s.heap))
 
 pub collecting_known : (h : Heap) (p : ℕ × List ℕ) → Answers (collecting h p).0
-unfolding collecting handing
-collecting_known h p = all_known h
+unfolding collecting handing collect_command
+collecting_known h p = collect_known (script h [])
 
 -- A line's command, whose refusal is what the line prints.
 pub obey_known : (line : List ℕ) (c : Command) (s : Script) → Answered (obey line c s).outcome
-unfolding obey collect_command
+unfolding obey
 obey_known line (command.Str i) s = str_command_known (drop i line) s
 obey_known line (command.Tab a n) s = tab_command_known a n s
 obey_known line command.Ud s = ud_command_known s
@@ -169,5 +171,5 @@ obey_known line command.Pop s = pop_command_known s
 obey_known line (command.Seti t i k) s = seti_command_known t i k s
 obey_known line (command.Setn t j k v) s = setn_command_known t j k v s
 obey_known line (command.Meta k t) s = meta_command_known k t s
-obey_known line command.Collect s = all_known s.heap
+obey_known line command.Collect s = collect_known s
 obey_known line command.Bad s = tt
